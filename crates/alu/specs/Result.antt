@@ -1,0 +1,19 @@
+-- What the operations answer, at either width: the result, and the flags that the operation names.
+-- Assumes nothing.
+use mathlib.Core.Bool.{Bool}
+use Prim.Native.Nat.{ℕ}
+
+pub record ResultC : Type 0 where
+  pub result : ℕ
+  pub carry : Bool
+
+pub record ResultCo : Type 0 where
+  pub result : ℕ
+  pub carry : Bool
+  pub overflow : Bool
+
+pub record ResultCoa : Type 0 where
+  pub result : ℕ
+  pub carry : Bool
+  pub overflow : Bool
+  pub auxCarry : Bool

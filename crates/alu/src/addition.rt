@@ -1,0 +1,50 @@
+// ADD and ADC.
+ghost use mathlib.Core.Path.{_≡_};
+ghost use Rattle.alu.specs.Sum.{add, adc};
+ghost use Rattle.alu.specs.Views.{coa8, coa16};
+use crate::result::ResultCoa8;
+use crate::result::ResultCoa16;
+use flags::width::Byte;
+use flags::width::Word;
+
+pub fn alu_add8(lhs: u8, rhs: u8) -> ResultCoa8
+    ensures { λ r. ⌜ coa8 r ≡ add 8 lhs rhs ⌝ }
+{
+    alu_adc8(lhs, rhs, false)
+}
+
+pub fn alu_adc8(lhs: u8, rhs: u8, carry_in: bool) -> ResultCoa8
+    ensures { λ r. ⌜ coa8 r ≡ adc 8 lhs rhs «carry_in» ⌝ }
+{
+    let sum = lhs as u16 + rhs as u16 + carry_in as u16;
+    let result = (sum % 0x100) as u8;
+    ResultCoa8 {
+        result,
+        carry: sum > Byte::MAX as u16,
+        // Both operands differ in sign from the result.
+        overflow: (lhs ^ result) & (rhs ^ result) & Byte::TOP != 0,
+        // Bit 4 is not the one that the operands' own bits make: a carry came in from below.
+        aux_carry: (lhs ^ rhs ^ result) & 0x10 != 0,
+    }
+}
+
+pub fn alu_add16(lhs: u16, rhs: u16) -> ResultCoa16
+    ensures { λ r. ⌜ coa16 r ≡ add 16 lhs rhs ⌝ }
+{
+    alu_adc16(lhs, rhs, false)
+}
+
+pub fn alu_adc16(lhs: u16, rhs: u16, carry_in: bool) -> ResultCoa16
+    ensures { λ r. ⌜ coa16 r ≡ adc 16 lhs rhs «carry_in» ⌝ }
+{
+    let sum = lhs as u32 + rhs as u32 + carry_in as u32;
+    let result = (sum % 0x1_0000) as u16;
+    ResultCoa16 {
+        result,
+        carry: sum > Word::MAX as u32,
+        // Both operands differ in sign from the result.
+        overflow: (lhs ^ result) & (rhs ^ result) & Word::TOP != 0,
+        // Bit 4 is not the one that the operands' own bits make: a carry came in from below.
+        aux_carry: (lhs ^ rhs ^ result) & 0x10 != 0,
+    }
+}

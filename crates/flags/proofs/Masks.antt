@@ -1,0 +1,60 @@
+-- What a mask and a shift of the code say, as arithmetic: a bit tested by a mask, the top bit, a bit put in below.
+-- Assumes nothing.
+use mathlib.Core.Path.{_≡_, refl, sym, ap, _∙_}
+use mathlib.Core.Bool.{Bool, true, false, not}
+use Prim.Native.Nat.{ℕ, zero, suc, _+_, _-_, _*_, _/_, _%_, _^_, _≤_, _<_}
+use native.Mathlib.Nat.{pow-suc, mod-lt, div-lt-iff-lt-mul, div-add-mod'}
+use native.Mathlib.Omega.{arith}
+use lib.Dec.{leb, eqb, lit<}
+use lib.Pow.{pow-pos}
+use lib.Bits.{bitAnd, bitOr, bitXor, or-shifted, and-high, and-shr, and-mod, xor-shr, xor-mod}
+use borrow.Author.Tests.{eq-eqb, ne-eqb, le-leb, lt-leb}
+use Rattle.flags.specs.Numbers.{bit, isSet, top, topSet}
+use Rattle.flags.proofs.Powers.{top-twice}
+
+-- a mask of one bit keeps that bit at its place
+pub and-bit : (k x : ℕ) → bitAnd x (2 ^ k) ≡ x / 2 ^ k % 2 * 2 ^ k
+and-bit k x = ap (bitAnd x) one-bit ∙ and-high x 1 k
+  where
+    one-bit : 2 ^ k ≡ 2 ^ (1 + k) - 2 ^ k
+    one-bit =
+        let e : 2 ^ (1 + k) ≡ 2 ^ k * 2 = ap (λ (j : ℕ). 2 ^ j) (omega arith) ∙ pow-suc 2 k in
+        omega arith
+
+-- so the masked number is not 0 exactly where the bit is set
+set-of : (d p : ℕ) → 0 < p → d < 2 → not (eqb (d * p) 0) ≡ eqb d 1
+set-of zero p hp hd = ap not (eq-eqb (0 * p) 0 (omega arith))
+set-of (suc zero) p hp hd = ap not (ne-eqb (1 * p) 0 (λ e. omega arith))
+set-of (suc (suc d)) p hp hd = absurd (omega arith)
+
+pub mask-bit : (k x : ℕ) → not (eqb (bitAnd x (2 ^ k)) 0) ≡ isSet k x
+mask-bit k x = ap (λ (y : ℕ). not (eqb y 0)) (and-bit k x) ∙ set-of (x / 2 ^ k % 2) (2 ^ k) (pow-pos k) (mod-lt (x / 2 ^ k) (lit< tt))
+
+-- the top bit of a number of n bits, as a digit and tested by its mask
+pub digit-top : (n x : ℕ) → 0 < n → x < 2 ^ n → x / top n % 2 ≡ bit (topSet n x)
+digit-top n x hn hx = by-digit (x / top n) (x % top n) (mod-lt x (pow-pos (n - 1))) (div-add-mod' x (top n))
+  where
+    by-digit : (d r : ℕ) → r < top n → d * top n + r ≡ x → d % 2 ≡ bit (topSet n x)
+    by-digit zero r hr e = ap bit (sym (lt-leb (top n) x (omega arith)))
+    by-digit (suc zero) r hr e = ap bit (sym (le-leb (top n) x (omega arith)))
+    by-digit (suc (suc d)) r hr e = absurd (omega (arith, top-twice n hn))
+
+bit-set : (b : Bool) → eqb (bit b) 1 ≡ b
+bit-set true = refl
+bit-set false = refl
+
+pub mask-top : (n x : ℕ) → 0 < n → x < 2 ^ n → not (eqb (bitAnd x (top n)) 0) ≡ topSet n x
+mask-top n x hn hx = mask-bit (n - 1) x ∙ ap (λ (d : ℕ). eqb d 1) (digit-top n x hn hx) ∙ bit-set (topSet n x)
+
+-- bit k of an xor or an and is that of the two bits
+pub digit-xor : (k a b : ℕ) → bitXor a b / 2 ^ k % 2 ≡ bitXor (a / 2 ^ k % 2) (b / 2 ^ k % 2)
+digit-xor k a b = ap (λ (x : ℕ). x % 2) (xor-shr a b k) ∙ xor-mod (a / 2 ^ k) (b / 2 ^ k) 1
+
+pub digit-and : (k a b : ℕ) → bitAnd a b / 2 ^ k % 2 ≡ bitAnd (a / 2 ^ k % 2) (b / 2 ^ k % 2)
+digit-and k a b = ap (λ (x : ℕ). x % 2) (and-shr a b k) ∙ and-mod (a / 2 ^ k) (b / 2 ^ k) 1
+
+-- a bit put into a number whose lowest is clear
+pub or-bit : (x b : ℕ) → x % 2 ≡ 0 → b < 2 → bitOr x b ≡ x + b
+or-bit x b e h =
+    let half : x ≡ x / 2 * 2 ^ 1 = omega arith in
+    ap (λ (y : ℕ). bitOr y b) half ∙ or-shifted (x / 2) 1 b h ∙ ap (λ (y : ℕ). y + b) (sym half)

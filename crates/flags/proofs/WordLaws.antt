@@ -1,0 +1,112 @@
+-- The flags word taken apart and put together: each undoes the other within 08D5, and together never leaves it.
+-- Assumes nothing.
+use mathlib.Core.Path.{_≡_, refl, ap, _∙_}
+use mathlib.Core.Bool.{Bool, true, false}
+use Prim.Native.Nat.{ℕ, zero, suc, _+_, _*_, _/_, _%_, _^_, _≤_, _<_}
+use native.Mathlib.Nat.{mod-lt, mod-eq-of-lt}
+use native.Mathlib.Omega.{arith}
+use lib.Bits.{bitOr, or-shifted}
+use lib.Dec.{eqb, lit<}
+use lib.Pow.{pow-pos}
+use Rattle.flags.specs.Numbers.{bit, isSet}
+use Rattle.flags.specs.Word.{wordOf, flagsOf, Within}
+use Rattle.flags.specs.declared.word.Flags.{Flags}
+
+pub bit-le : (b : Bool) → bit b ≤ 1
+bit-le true = omega arith
+bit-le false = omega arith
+
+-- a flag is its digit tested
+flag-of : (b : Bool) {d : ℕ} → d ≡ bit b → eqb d 1 ≡ b
+flag-of true e = ap (λ (x : ℕ). eqb x 1) e
+flag-of false e = ap (λ (x : ℕ). eqb x 1) e
+
+digit-of : (d : ℕ) → d < 2 → bit (eqb d 1) ≡ d
+digit-of zero h = refl
+digit-of (suc zero) h = refl
+digit-of (suc (suc d)) h = absurd (omega arith)
+
+pub bit-isSet : (k w : ℕ) → bit (isSet k w) ≡ w / 2 ^ k % 2
+bit-isSet k w = digit-of (w / 2 ^ k % 2) (mod-lt (w / 2 ^ k) (lit< tt))
+
+-- what a word of six digits has at each place
+module _ (c p a z s o w : ℕ) (hc : c ≤ 1) (hp : p ≤ 1) (ha : a ≤ 1) (hz : z ≤ 1) (hs : s ≤ 1) (ho : o ≤ 1)
+    (e : w ≡ c * 0x0001 + p * 0x0004 + a * 0x0010 + z * 0x0040 + s * 0x0080 + o * 0x0800) where
+  places : (w / 2 ^ 0 % 2 ≡ c) × (w / 2 ^ 2 % 2 ≡ p) × (w / 2 ^ 4 % 2 ≡ a) × (w / 2 ^ 6 % 2 ≡ z) × (w / 2 ^ 7 % 2 ≡ s) × (w / 2 ^ 11 % 2 ≡ o)
+  places = omega arith
+
+  between : Within w
+  between = omega arith
+
+module _ (f : Flags) where
+  six {ℓ} : (P : ℕ → ℕ → ℕ → ℕ → ℕ → ℕ → ℕ → Type ℓ) → ((c p a z s o w : ℕ) → c ≤ 1 → p ≤ 1 → a ≤ 1 → z ≤ 1 → s ≤ 1 → o ≤ 1 → w ≡ c * 0x0001 + p * 0x0004 + a * 0x0010 + z * 0x0040 + s * 0x0080 + o * 0x0800 → P c p a z s o w)
+      → P (bit (f .carry)) (bit (f .parity)) (bit (f .«aux_carry»)) (bit (f .zero)) (bit (f .sign)) (bit (f .overflow)) (wordOf f)
+  unfolding wordOf
+  six P h = h _ _ _ _ _ _ _ (bit-le (f .carry)) (bit-le (f .parity)) (bit-le (f .«aux_carry»)) (bit-le (f .zero)) (bit-le (f .sign)) (bit-le (f .overflow)) refl
+
+  pub together-within : Within (wordOf f)
+  together-within = six (λ c p a z s o w. Within w) between
+
+  pub apart-together : flagsOf (wordOf f) ≡ f
+  unfolding flagsOf
+  apart-together =
+      let at = six (λ c p a z s o w. (w / 2 ^ 0 % 2 ≡ c) × (w / 2 ^ 2 % 2 ≡ p) × (w / 2 ^ 4 % 2 ≡ a) × (w / 2 ^ 6 % 2 ≡ z) × (w / 2 ^ 7 % 2 ≡ s) × (w / 2 ^ 11 % 2 ≡ o)) places in
+      λ i. record {
+        carry = flag-of (f .carry) (at .0) i;
+        parity = flag-of (f .parity) (at .1) i;
+        «aux_carry» = flag-of (f .«aux_carry») (at .2) i;
+        zero = flag-of (f .zero) (at .3) i;
+        sign = flag-of (f .sign) (at .4) i;
+        overflow = flag-of (f .overflow) (at .5) i;
+      }
+
+-- a number from its digits, the quotients between them given
+assembled : (w q4 q16 q64 q256 c p a z s o : ℕ) → w ≡ c + q4 * 4 → q4 ≡ p + q16 * 4 → q16 ≡ a + q64 * 4 → q64 ≡ z + s * 2 + q256 * 4 → q256 ≡ o * 8
+    → c * 0x0001 + p * 0x0004 + a * 0x0010 + z * 0x0040 + s * 0x0080 + o * 0x0800 ≡ w
+assembled w q4 q16 q64 q256 c p a z s o e0 e2 e4 e6 e8 = omega arith
+
+pub together-apart : (w : ℕ) → Within w → wordOf (flagsOf w) ≡ w
+unfolding flagsOf wordOf
+together-apart w h =
+    simp bit-isSet
+    (assembled w (w / 4) (w / 16) (w / 64) (w / 256) _ _ _ _ _ _ (first (h .bit1)) (second (h .bit3)) (third (h .bit5)) fourth (fifth (h .bits8to10) (h .above)))
+  where
+    first : w / 2 % 2 ≡ 0 → w ≡ w / 1 % 2 + w / 4 * 4
+    first e = omega arith
+
+    second : w / 8 % 2 ≡ 0 → w / 4 ≡ w / 4 % 2 + w / 16 * 4
+    second e = omega arith
+
+    third : w / 32 % 2 ≡ 0 → w / 16 ≡ w / 16 % 2 + w / 64 * 4
+    third e = omega arith
+
+    fourth : w / 64 ≡ w / 64 % 2 + w / 128 % 2 * 2 + w / 256 * 4
+    fourth = omega arith
+
+    fifth : w / 256 % 8 ≡ 0 → w < 4096 → w / 256 ≡ w / 2048 % 2 * 8
+    fifth e l = omega arith
+
+-- a digit put in below a word that was shifted to make room
+abbrev pub pushed : ℕ → ℕ → ℕ → ℕ
+pushed k w b = bitOr (w * 2 ^ k % 2 ^ 16) b
+
+push : (k w b : ℕ) {v : ℕ} → w ≡ v → v * 2 ^ k < 2 ^ 16 → b < 2 ^ k → pushed k w b ≡ v * 2 ^ k + b
+push k w b {v} e small hb = ap (λ (x : ℕ). pushed k x b) e ∙ ap (λ (x : ℕ). bitOr x b) (mod-eq-of-lt small) ∙ or-shifted v k b hb
+
+-- the six put in one after the other, from the highest down
+pub pushed-six : (f : Flags)
+    → pushed 2 (pushed 2 (pushed 2 (pushed 1 (pushed 4 (bit (f .overflow)) (bit (f .sign))) (bit (f .zero))) (bit (f .«aux_carry»))) (bit (f .parity))) (bit (f .carry))
+    ≡ wordOf f
+unfolding wordOf
+pushed-six f =
+    let c = bit-le (f .carry) in
+    let p = bit-le (f .parity) in
+    let a = bit-le (f .«aux_carry») in
+    let z = bit-le (f .zero) in
+    let s = bit-le (f .sign) in
+    let o = bit-le (f .overflow) in
+    let w4 = push 4 (bit (f .overflow)) (bit (f .sign)) refl (omega arith) (omega arith) in
+    let w5 = push 1 _ (bit (f .zero)) w4 (omega arith) (omega arith) in
+    let w7 = push 2 _ (bit (f .«aux_carry»)) w5 (omega arith) (omega arith) in
+    let w9 = push 2 _ (bit (f .parity)) w7 (omega arith) (omega arith) in
+    push 2 _ (bit (f .carry)) w9 (omega arith) (omega arith) ∙ omega arith

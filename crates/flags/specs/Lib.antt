@@ -1,0 +1,4 @@
+pub mod Numbers
+pub mod Parity
+pub mod Word
+pub mod Szp

@@ -1,0 +1,45 @@
+-- The flags word: where each of the six flags stands in it, and what an operation that names some of them leaves of the others.
+-- Assumes nothing.
+use mathlib.Core.Path.{_≡_}
+use mathlib.Core.Bool.{Bool}
+use Prim.Native.Nat.{ℕ, _+_, _*_, _/_, _%_, _<_}
+use Rattle.flags.specs.Numbers.{bit, isSet}
+use Rattle.flags.specs.declared.word.Flags.{Flags}
+
+-- C 0001, P 0004, A 0010, Z 0040, S 0080, O 0800
+unfoldable pub wordOf : Flags → ℕ
+wordOf f =
+    bit (f .carry) * 0x0001 + bit (f .parity) * 0x0004 + bit (f .«aux_carry») * 0x0010 + bit (f .zero) * 0x0040 + bit (f .sign) * 0x0080
+    + bit (f .overflow) * 0x0800
+
+-- the same bits by their places: 0, 2, 4, 6, 7 and 11
+unfoldable pub flagsOf : ℕ → Flags
+flagsOf w =
+    record {
+      carry = isSet 0 w;
+      parity = isSet 2 w;
+      «aux_carry» = isSet 4 w;
+      zero = isSet 6 w;
+      sign = isSet 7 w;
+      overflow = isSet 11 w;
+    }
+
+-- a word with no bit set but those six, all together 08D5
+pub record Within (w : ℕ) : Type 0 where
+  pub bit1 : w / 2 % 2 ≡ 0
+  pub bit3 : w / 8 % 2 ≡ 0
+  pub bit5 : w / 32 % 2 ≡ 0
+  pub bits8to10 : w / 256 % 8 ≡ 0
+  pub above : w < 4096
+
+abbrev pub setC : Bool → Flags → Flags
+setC c f =
+    record { carry = c; parity = f .parity; «aux_carry» = f .«aux_carry»; zero = f .zero; sign = f .sign; overflow = f .overflow }
+
+abbrev pub setCO : Bool → Bool → Flags → Flags
+setCO c o f =
+    record { carry = c; parity = f .parity; «aux_carry» = f .«aux_carry»; zero = f .zero; sign = f .sign; overflow = o }
+
+abbrev pub setCOA : Bool → Bool → Bool → Flags → Flags
+setCOA c o a f =
+    record { carry = c; parity = f .parity; «aux_carry» = a; zero = f .zero; sign = f .sign; overflow = o }

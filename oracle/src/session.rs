@@ -1,0 +1,83 @@
+//! A run over many lines, kept apart from the program so that other programs
+//! and tests can have it without starting one.
+
+use crate::answer::answer;
+use crate::request::{Fault, Request, REQUEST_DIGITS};
+use std::fmt;
+use std::io::{self, BufRead, Read, Write};
+
+/// Which flags a refused divide answers with.
+#[derive(Clone, Copy, Debug, Default, PartialEq, Eq)]
+pub enum RefusedFlags {
+    /// Those the Rust leaves behind.
+    #[default]
+    Rust,
+    /// Those handed in: the project's simplification.
+    HandedIn,
+}
+
+/// Why a run stopped before the end of its input.
+#[derive(Debug)]
+pub enum Stop {
+    /// The line of this number, counted from 1, is not admitted.
+    Line(u64, Fault),
+    Read(io::Error),
+    Write(io::Error),
+}
+
+impl fmt::Display for Stop {
+    fn fmt(&self, out: &mut fmt::Formatter) -> fmt::Result {
+        match self {
+            Stop::Line(number, fault) => write!(out, "line {number}: {fault}"),
+            Stop::Read(error) => write!(out, "cannot read the input: {error}"),
+            Stop::Write(error) => write!(out, "cannot write the output: {error}"),
+        }
+    }
+}
+
+impl std::error::Error for Stop {}
+
+/// Answers every line and returns their number. The answers before a line that
+/// is not admitted are written all the same.
+pub fn run(
+    mut input: impl BufRead,
+    mut output: impl Write,
+    refused: RefusedFlags,
+) -> Result<u64, Stop> {
+    let result = answer_lines(&mut input, &mut output, refused);
+    match output.flush() {
+        Err(error) if !matches!(result, Err(Stop::Write(_))) => Err(Stop::Write(error)),
+        _ => result,
+    }
+}
+
+fn answer_lines(
+    input: &mut impl BufRead,
+    output: &mut impl Write,
+    refused: RefusedFlags,
+) -> Result<u64, Stop> {
+    // Room for a whole line and its feed. A longer line shows by filling the
+    // room without a feed, so no line can make the buffer grow.
+    const ROOM: usize = REQUEST_DIGITS + 1;
+    let mut buffer = Vec::with_capacity(ROOM);
+    let mut lines = 0;
+    loop {
+        buffer.clear();
+        input
+            .by_ref()
+            .take(ROOM as u64)
+            .read_until(b'\n', &mut buffer)
+            .map_err(Stop::Read)?;
+        if buffer.is_empty() {
+            return Ok(lines);
+        }
+        lines += 1;
+        let line = buffer.strip_suffix(b"\n").unwrap_or(&buffer);
+        let request = Request::parse(line).map_err(|fault| Stop::Line(lines, fault))?;
+        let mut given = answer(&request);
+        if refused == RefusedFlags::HandedIn {
+            given = given.with_refused_flags_handed_in(&request);
+        }
+        output.write_all(&given.to_line()).map_err(Stop::Write)?;
+    }
+}

@@ -1,0 +1,185 @@
+//! Lines in and out, and the program itself: what a user of either relies on.
+
+use oracle::draw::Draw;
+use oracle::request::Operation;
+use oracle::session::{run, RefusedFlags, Stop};
+use oracle::{answer, edges, Fault, Request};
+use std::io::Write;
+use std::process::{Command, Output, Stdio};
+
+const SESSION: &str = "11000000000000070002\n110200000000FF800001\n";
+
+fn text(requests: &str, refused: RefusedFlags) -> (String, Result<u64, Stop>) {
+    let mut answers = Vec::new();
+    let result = run(requests.as_bytes(), &mut answers, refused);
+    (String::from_utf8(answers).unwrap(), result)
+}
+
+#[test]
+fn session_of_the_scope() {
+    let (answers, result) = text(SESSION, RefusedFlags::HandedIn);
+    assert_eq!(answers, "000001005100030001\n060000005F00000000\n");
+    assert_eq!(result.unwrap(), 2);
+}
+
+/// The Rust writes flags before it refuses. The last compare is 00 - 01, so A
+/// and P are set; S is bit 15 and stays clear; the quotient's magnitude is 80,
+/// so C is clear.
+#[test]
+fn session_with_the_flags_of_the_rust() {
+    let (answers, _) = text(SESSION, RefusedFlags::Rust);
+    assert_eq!(answers, "000001005100030001\n060014005F00000000\n");
+}
+
+#[test]
+fn last_feed_may_lack_and_both_cases_are_read() {
+    let (answers, result) = text(
+        "18000000000000fa0000\n18000000000000FA0000",
+        RefusedFlags::Rust,
+    );
+    let (first, second) = answers.split_at(19);
+    assert_eq!(first, second);
+    assert_eq!(result.unwrap(), 2);
+    assert_eq!(text("", RefusedFlags::Rust).1.unwrap(), 0);
+}
+
+#[test]
+fn faults_in_their_order() {
+    for (line, fault) in [
+        ("", Fault::Length),
+        ("1100000000000007000", Fault::Length),
+        ("110000000000000700020", Fault::Length),
+        ("11000000000000070002\r", Fault::Length),
+        ("FFFF000000000007000g", Fault::Digit),
+        ("+1000000000000070002", Fault::Digit),
+        ("0DFFFFFFFFFFFFFFFFFF", Fault::Op),
+        ("12000000000000000000", Fault::Op),
+        ("17000000000000000000", Fault::Op),
+        ("1D000000000000000000", Fault::Op),
+        ("0008FFFFFFFFFFFFFFFF", Fault::Mode),
+        ("00020000000000000000", Fault::Mode),
+        ("00040000000000000000", Fault::Mode),
+        ("18010000000000000000", Fault::Mode),
+        ("00000002000000000000", Fault::Range),
+        ("00000000000001000000", Fault::Range),
+        ("00000000000000000100", Fault::Range),
+        ("00010000000100000000", Fault::Range),
+        ("05010000000000000100", Fault::Range),
+        ("04000000000000000001", Fault::Range),
+        ("11000000000100000001", Fault::Range),
+        ("18000000000100000000", Fault::Range),
+        ("18000000000000000001", Fault::Range),
+        ("1A000000000000000100", Fault::Range),
+    ] {
+        assert_eq!(Request::parse(line.as_bytes()), Err(fault), "{line}");
+    }
+}
+
+#[test]
+fn largest_operands_are_admitted() {
+    for operation in Operation::all() {
+        let (x, y) = (operation.x_limit(), operation.y_limit());
+        let request = Request::new(operation, 0x08D5, x, y).unwrap();
+        let line = request.to_line();
+        assert_eq!(Request::parse(&line[..20]), Ok(request));
+    }
+    assert_eq!(Operation::all().count(), 47);
+}
+
+#[test]
+fn a_fault_names_its_line_and_keeps_the_answers_before_it() {
+    let (answers, result) = text("11000000000000070002\n\n", RefusedFlags::Rust);
+    assert_eq!(answers, "000001005100030001\n");
+    assert!(matches!(result, Err(Stop::Line(2, Fault::Length))));
+    let long = "0".repeat(1000);
+    assert!(matches!(
+        text(&long, RefusedFlags::Rust).1,
+        Err(Stop::Line(1, Fault::Length))
+    ));
+}
+
+/// Steps have the scope's bounds, and most divides drawn are accepted.
+#[test]
+fn drawn_requests_are_admitted_and_answered() {
+    let operations: Vec<Operation> = Operation::all().collect();
+    let (mut draw, mut again) = (Draw::new(7), Draw::new(7));
+    let (mut divides, mut refused) = (0, 0);
+    for _ in 0..100_000 {
+        let request = draw.request(&operations);
+        assert_eq!(request, again.request(&operations));
+        assert_eq!(Request::parse(&request.to_line()[..20]), Ok(request));
+        let given = answer(&request);
+        assert!(given.flags & !0x08D5 == 0);
+        if let Operation::Divide(_) = request.operation() {
+            divides += 1;
+            refused += u32::from(given.refused);
+            assert!(given.steps <= 183);
+        }
+    }
+    assert!(
+        refused > 0 && refused * 3 < divides,
+        "{refused} of {divides}"
+    );
+}
+
+#[test]
+fn every_edge_is_admitted_and_answered() {
+    for operation in Operation::all() {
+        let mut lines = 0;
+        let mut take = |request: Request| {
+            lines += 1;
+            assert_eq!(request.operation(), operation);
+            answer(&request);
+            Ok::<(), ()>(())
+        };
+        edges::each(operation, &mut take).unwrap();
+        assert!(lines > 0);
+    }
+}
+
+fn program(arguments: &[&str], input: &str) -> Output {
+    let mut child = Command::new(env!("CARGO_BIN_EXE_oracle"))
+        .args(arguments)
+        .stdin(Stdio::piped())
+        .stdout(Stdio::piped())
+        .stderr(Stdio::piped())
+        .spawn()
+        .unwrap();
+    // A program that stops at its options never reads; that is no failure here.
+    let _ = child.stdin.take().unwrap().write_all(input.as_bytes());
+    child.wait_with_output().unwrap()
+}
+
+#[test]
+fn program_answers_what_it_makes() {
+    let made = program(&["make", "--seed", "1", "--count", "500", "--op", "11"], "");
+    let requests = String::from_utf8(made.stdout).unwrap();
+    assert_eq!(requests.lines().count(), 500);
+    assert!(requests.lines().all(|line| line.starts_with("11")));
+    let answered = program(&["answer", "--refused-flags", "handed-in"], &requests);
+    assert!(answered.status.success());
+    assert_eq!(answered.stdout.len(), 500 * 19);
+}
+
+#[test]
+fn program_reports_what_is_wrong() {
+    for arguments in [
+        &[][..],
+        &["guess"],
+        &["answer", "--fast"],
+        &["answer", "--refused-flags", "none"],
+        &["make", "--seed", "1"],
+        &["make", "--seed", "x", "--count", "1"],
+        &["make", "--edges", "--op", "12"],
+        &["make", "--edges", "--op", "+1"],
+    ] {
+        let output = program(arguments, "");
+        assert_eq!(output.status.code(), Some(2), "{arguments:?}");
+        assert!(!output.stderr.is_empty() && output.stdout.is_empty());
+    }
+    assert!(program(&["--help"], "").status.success());
+    let output = program(&["answer"], "11000000000000070002\n0D000000000000000000\n");
+    assert_eq!(output.status.code(), Some(1));
+    let message = String::from_utf8(output.stderr).unwrap();
+    assert!(message.contains("line 2: the op is not listed (status 3)"));
+}
