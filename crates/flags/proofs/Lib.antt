@@ -4,3 +4,4 @@ pub mod Tables
 pub mod WordLaws
 pub mod SzpLaws
 pub mod SignedLaws
+pub mod SignLaws

@@ -3,7 +3,7 @@
 use mathlib.Core.Bool.{Bool, true, false, cond, _&&_}
 use Prim.Native.Nat.{ℕ, _-_, _*_, _/_, _%_, _^_}
 use lib.Dec.{leb, eqb}
-use lib.IntN.{ℤ, pos, negℤ, subℕ}
+use lib.IntN.{ℤ, pos, negsuc, negℤ, natAbs, subℕ}
 use lib.Signed.{leZ, ltZ}
 
 -- a flag as a digit
@@ -30,3 +30,20 @@ signed n x = cond (topSet n x) (subℕ x (2 ^ n)) (pos x)
 -- the signed numbers of n bits: from -2 ^ (n - 1) to 2 ^ (n - 1) - 1
 unfoldable pub fitsSigned : ℕ → ℤ → Bool
 fitsSigned n z = leZ (negℤ (pos (top n))) z && ltZ z (pos (top n))
+
+-- the number that n bits stand for, signed or not, and its magnitude
+abbrev pub valued : Bool → ℕ → ℕ → ℤ
+valued true n x = signed n x
+valued false n x = pos x
+
+abbrev pub magnitude : Bool → ℕ → ℕ → ℕ
+magnitude s n x = natAbs (valued s n x)
+
+-- the low n bits of a signed number: what it leaves when divided by 2 ^ n, counted up from 0
+unfoldable pub wrapped : ℕ → ℤ → ℕ
+wrapped n (pos k) = k % 2 ^ n
+wrapped n (negsuc k) = 2 ^ n - 1 - k % 2 ^ n
+
+-- n bits taken from 0
+abbrev pub negated : ℕ → ℕ → ℕ
+negated n x = (2 ^ n - x) % 2 ^ n

@@ -1,0 +1,91 @@
+-- Signed numbers as a sign and a magnitude: what products, quotients and remainders make of the two, and the bits that stand for them.
+-- Assumes nothing.
+use mathlib.Core.Path.{_≡_, refl, sym, ap, _∙_}
+use mathlib.Core.Bool.{Bool, true, false, not, cond, xor}
+use Prim.Native.Nat.{ℕ, zero, suc, _+_, _-_, _*_, _/_, _%_, _^_, _≤_, _<_}
+use native.Mathlib.Nat.{mod-eq-of-lt, mod-self, zero-mul, mul-zero, zero-div, zero-mod}
+use native.Mathlib.Omega.{arith}
+use lib.Dec.{ltb, leb}
+use lib.IntN.{ℤ, pos, negsuc, negℤ, natAbs, subℕ, _*ℤ_}
+use lib.Signed.{quotZ, remZ}
+use lib.Pow.{pow-pos}
+use borrow.Author.Tests.{lt-ltb}
+use Rattle.flags.specs.Numbers.{bit, top, topSet, signed, wrapped, negated}
+use Rattle.flags.proofs.Powers.{top-twice}
+use Rattle.flags.proofs.SignedLaws.{Diff, above, below, diff-signed, TopIs, top-is}
+
+-- a magnitude with a sign, true for negative
+abbrev pub signOf : Bool → ℕ → ℤ
+signOf true m = negℤ (pos m)
+signOf false m = pos m
+
+-- the magnitude of n bits by their top bit
+abbrev pub plain : ℕ → ℕ → ℕ
+plain n x = cond (topSet n x) (2 ^ n - x) x
+
+pub signed-by : (n x : ℕ) → x < 2 ^ n → signed n x ≡ signOf (topSet n x) (plain n x)
+unfolding signed
+signed-by n x hx = by (topSet n x)
+  where
+    by : (s : Bool) → cond s (subℕ x (2 ^ n)) (pos x) ≡ signOf s (cond s (2 ^ n - x) x)
+    by false = refl
+    by true = below-zero (2 ^ n - x) refl
+      where
+        below-zero : (k : ℕ) → 2 ^ n - x ≡ k → subℕ x (2 ^ n) ≡ negℤ (pos k)
+        below-zero zero e = absurd (omega arith)
+        below-zero (suc j) e = rw (lt-ltb x (2 ^ n) hx) (ap negsuc (omega arith))
+
+pub abs-sign : (s : Bool) (m : ℕ) → natAbs (signOf s m) ≡ m
+abs-sign false m = refl
+abs-sign true zero = refl
+abs-sign true (suc m) = refl
+
+pub neg-sign : (s : Bool) (m : ℕ) → negℤ (signOf s m) ≡ signOf (not s) m
+neg-sign false m = refl
+neg-sign true zero = refl
+neg-sign true (suc m) = refl
+
+pub mul-sign : (s t : Bool) (a b : ℕ) → signOf s a *ℤ signOf t b ≡ signOf (xor s t) (a * b)
+unfolding xor
+mul-sign false false a b = refl
+mul-sign false true a zero = ap pos (mul-zero a) ∙ ap (λ (k : ℕ). negℤ (pos k)) (sym (mul-zero a))
+mul-sign false true a (suc b) = refl
+mul-sign true false zero b = ap pos (zero-mul b) ∙ ap (λ (k : ℕ). negℤ (pos k)) (sym (zero-mul b))
+mul-sign true false (suc a) b = refl
+mul-sign true true zero zero = refl
+mul-sign true true zero (suc b) = ap (λ (k : ℕ). negℤ (pos k)) (zero-mul (suc b)) ∙ ap pos (sym (zero-mul (suc b)))
+mul-sign true true (suc a) zero = ap (λ (k : ℕ). negℤ (pos k)) (mul-zero (suc a)) ∙ ap pos (sym (mul-zero (suc a)))
+mul-sign true true (suc a) (suc b) = refl
+
+-- cut towards zero
+pub quot-sign : (s t : Bool) (a b : ℕ) → 0 < b → quotZ (signOf s a) (signOf t b) ≡ signOf (xor s t) (a / b)
+unfolding xor
+quot-sign s t a zero h = absurd (omega arith)
+quot-sign false false a (suc b) h = refl
+quot-sign false true a (suc b) h = refl
+quot-sign true false zero (suc b) h = ap pos (zero-div (suc b)) ∙ ap (λ (k : ℕ). negℤ (pos k)) (sym (zero-div (suc b)))
+quot-sign true false (suc a) (suc b) h = refl
+quot-sign true true zero (suc b) h = ap (λ (k : ℕ). negℤ (pos k)) (zero-div (suc b)) ∙ ap pos (sym (zero-div (suc b)))
+quot-sign true true (suc a) (suc b) h = refl
+
+-- with the dividend's sign
+pub rem-sign : (s t : Bool) (a b : ℕ) → remZ (signOf s a) (signOf t b) ≡ signOf s (a % b)
+rem-sign false t a b = ap (λ (k : ℕ). pos (a % k)) (abs-sign t b)
+rem-sign true t zero b = ap (λ (k : ℕ). pos (zero % k)) (abs-sign t b) ∙ ap pos (zero-mod b) ∙ ap (λ (k : ℕ). negℤ (pos k)) (sym (zero-mod b))
+rem-sign true t (suc a) b = ap (λ (k : ℕ). negℤ (pos (suc a % k))) (abs-sign t b)
+
+-- the bits that stand for a sign and a magnitude
+pub wrapped-sign : (n : ℕ) (s : Bool) (m : ℕ) → m < 2 ^ n → wrapped n (signOf s m) ≡ cond s (negated n m) m
+unfolding wrapped
+wrapped-sign n false m h = mod-eq-of-lt h
+wrapped-sign n true zero h = mod-eq-of-lt (pow-pos n) ∙ sym (ap (λ (k : ℕ). k % 2 ^ n) (omega arith) ∙ mod-self (2 ^ n))
+wrapped-sign n true (suc m) h =
+    ap (λ (k : ℕ). 2 ^ n - 1 - k) (mod-eq-of-lt (omega arith)) ∙ omega arith ∙ sym (mod-eq-of-lt (omega arith))
+
+-- the magnitude of n bits is below 2 ^ n, and of signed ones at most the top bit
+pub plain-lt : (n x : ℕ) → 0 < n → x < 2 ^ n → (plain n x ≤ top n) × (plain n x < 2 ^ n)
+plain-lt n x hn hx = by (topSet n x) (top-is n x)
+  where
+    by : (s : Bool) → TopIs s (top n) x → (cond s (2 ^ n - x) x ≤ top n) × (cond s (2 ^ n - x) x < 2 ^ n)
+    by true h = omega (arith, top-twice n hn, pow-pos (n - 1))
+    by false h = omega (arith, top-twice n hn)

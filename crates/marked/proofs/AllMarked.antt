@@ -1,0 +1,16 @@
+-- Every marked example gives what the scope says: one statement over the whole list, by computation.
+-- Assumes nothing.
+use mathlib.Core.Path.{_≡_, refl}
+use mathlib.Core.List.{List, map}
+use Prim.Native.Nat.{ℕ}
+use Rattle.flags.specs.Numbers.{signed, fitsSigned}
+use Rattle.flags.specs.Word.{wordOf, flagsOf}
+use Rattle.alu.specs.Sum.{adc, sbb}
+use Rattle.alu.specs.Step.{left, right, step, steps}
+use Rattle.alu.specs.Shift.{leftward, rightward, downward}
+use Rattle.marked.specs.Marked.{Marked, marked}
+use mathlib.Core.Bool.{xor}
+
+pub all-marked : map (λ (m : Marked). m .gives) marked ≡ map (λ (m : Marked). m .says) marked
+unfolding wordOf flagsOf signed fitsSigned adc sbb left right step steps leftward rightward downward xor
+all-marked = refl
