@@ -46,6 +46,13 @@ bit-set false = refl
 pub mask-top : (n x : ℕ) → 0 < n → x < 2 ^ n → not (eqb (bitAnd x (top n)) 0) ≡ topSet n x
 mask-top n x hn hx = mask-bit (n - 1) x ∙ ap (λ (d : ℕ). eqb d 1) (digit-top n x hn hx) ∙ bit-set (topSet n x)
 
+-- the same where the code branches on the test
+pub top-masked : (n x : ℕ) → 0 < n → x < 2 ^ n → (bitAnd x (top n) ≡ 0 → ⊥) → topSet n x ≡ true
+top-masked n x hn hx h = sym (mask-top n x hn hx) ∙ ap not (ne-eqb (bitAnd x (top n)) 0 h)
+
+pub top-unmasked : (n x : ℕ) → 0 < n → x < 2 ^ n → bitAnd x (top n) ≡ 0 → topSet n x ≡ false
+top-unmasked n x hn hx h = sym (mask-top n x hn hx) ∙ ap not (eq-eqb (bitAnd x (top n)) 0 h)
+
 -- bit k of an xor or an and is that of the two bits
 pub digit-xor : (k a b : ℕ) → bitXor a b / 2 ^ k % 2 ≡ bitXor (a / 2 ^ k % 2) (b / 2 ^ k % 2)
 digit-xor k a b = ap (λ (x : ℕ). x % 2) (xor-shr a b k) ∙ xor-mod (a / 2 ^ k) (b / 2 ^ k) 1

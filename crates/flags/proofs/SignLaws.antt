@@ -89,3 +89,22 @@ plain-lt n x hn hx = by (topSet n x) (top-is n x)
     by : (s : Bool) → TopIs s (top n) x → (cond s (2 ^ n - x) x ≤ top n) × (cond s (2 ^ n - x) x < 2 ^ n)
     by true h = omega (arith, top-twice n hn, pow-pos (n - 1))
     by false h = omega (arith, top-twice n hn)
+
+-- a sign flipped or kept
+pub xor-true : (s : Bool) → xor s true ≡ not s
+unfolding xor
+xor-true true = refl
+xor-true false = refl
+
+pub xor-false : (s : Bool) → xor s false ≡ s
+unfolding xor
+xor-false true = refl
+xor-false false = refl
+
+-- NEGATE's way to the magnitude of n bits
+pub plain-by : (n x : ℕ) → 0 < n → x < 2 ^ n → cond (topSet n x) (negated n x) x ≡ plain n x
+plain-by n x hn hx = by (topSet n x) (top-is n x)
+  where
+    by : (s : Bool) → TopIs s (top n) x → cond s (negated n x) x ≡ cond s (2 ^ n - x) x
+    by true h = mod-eq-of-lt (omega (arith, pow-pos (n - 1)))
+    by false h = refl

@@ -1,0 +1,2 @@
+pub mod Negate
+pub mod Views
