@@ -11,13 +11,13 @@ use lib.Dec.{leb, ltb, eqb}
 use lib.IntN.{ℤ, pos, _+ℤ_, _-ℤ_}
 use lib.Pow.{pow-pos}
 use borrow.Author.Tests.{leb-true, leb-false, ltb-true, ltb-false, le-leb, lt-leb, lt-ltb, le-ltb}
-use Rattle.flags.specs.Numbers.{bit, isSet, top, topSet, signed, fitsSigned}
+use Rattle.flags.specs.Numbers.{bit, isSet, top, topSet, signed, fitsSigned, negated}
 use Rattle.flags.proofs.Powers.{top-twice, rest-small, rest-large}
 use Rattle.flags.proofs.Masks.{mask-bit, digit-xor, digit-and, digit-top}
 use Rattle.flags.proofs.SignedLaws.{Diff, above, diff-as, diff-neg, diff-add, diff-signed, fits-diff, TopIs, top-is, same-test}
 use Rattle.flags.proofs.WordLaws.{bit-le, bit-isSet}
 use Rattle.alu.specs.Result.{ResultCoa}
-use Rattle.alu.specs.Sum.{adc, sbb}
+use Rattle.alu.specs.Sum.{adc, sbb, neg}
 
 -- ---- overflow
 
@@ -197,3 +197,11 @@ module _ (n : ℕ) (hn : 0 < n) (q : ℕ) (hq : 2 ^ n ≡ q * 32) (a b : ℕ) (c
           odd-out-is n r b a hn hr hb ha
           ∙ difference-leaves (top n) (2 ^ n) a b (bit c) r (top-twice n hn) ha hb hr (bit-le c) enough short (topSet n a) (topSet n b) (topSet n r) (top-is n a) (top-is n b) (top-is n r)
           ∙ ap not (sym (fits-diff n (diff-add (diff-add (diff-signed n a) (diff-neg (diff-signed n b))) (diff-neg (above (bit c) (bit c) 0 (omega arith))))))
+
+-- NEG leaves what is taken from 0
+pub neg-result : (n x : ℕ) {r : ResultCoa} → r ≡ neg n x → r .result ≡ negated n x
+unfolding sbb
+neg-result n x e = ap (λ (r : ResultCoa). r .result) e ∙ ap (λ (y : ℕ). y % 2 ^ n) taken
+  where
+    taken : 2 ^ n + 0 - (x + 0) ≡ 2 ^ n - x
+    taken = omega arith

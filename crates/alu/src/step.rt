@@ -21,7 +21,7 @@ pub struct Step8 {
     pub carry: bool,
 }
 
-fn left8(enters: bool, value: u8) -> Step8
+pub fn left8(enters: bool, value: u8) -> Step8
     ensures { λ r. ⌜ step8 r ≡ left 8 enters value ⌝ }
 {
     Step8 {
@@ -30,7 +30,7 @@ fn left8(enters: bool, value: u8) -> Step8
     }
 }
 
-fn right8(enters: bool, value: u8) -> Step8
+pub fn right8(enters: bool, value: u8) -> Step8
     ensures { λ r. ⌜ step8 r ≡ right 8 enters value ⌝ }
 {
     Step8 {
@@ -71,7 +71,7 @@ pub struct Step16 {
     pub carry: bool,
 }
 
-fn left16(enters: bool, value: u16) -> Step16
+pub fn left16(enters: bool, value: u16) -> Step16
     ensures { λ r. ⌜ step16 r ≡ left 16 enters value ⌝ }
 {
     Step16 {
@@ -80,7 +80,7 @@ fn left16(enters: bool, value: u16) -> Step16
     }
 }
 
-fn right16(enters: bool, value: u16) -> Step16
+pub fn right16(enters: bool, value: u16) -> Step16
     ensures { λ r. ⌜ step16 r ≡ right 16 enters value ⌝ }
 {
     Step16 {

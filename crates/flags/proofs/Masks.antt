@@ -1,14 +1,14 @@
 -- What a mask and a shift of the code say, as arithmetic: a bit tested by a mask, the top bit, a bit put in below.
 -- Assumes nothing.
 use mathlib.Core.Path.{_≡_, refl, sym, ap, _∙_}
-use mathlib.Core.Bool.{Bool, true, false, not}
+use mathlib.Core.Bool.{Bool, true, false, not, Bool·not-not}
 use Prim.Native.Nat.{ℕ, zero, suc, _+_, _-_, _*_, _/_, _%_, _^_, _≤_, _<_}
 use native.Mathlib.Nat.{pow-suc, mod-lt, div-lt-iff-lt-mul, div-add-mod'}
 use native.Mathlib.Omega.{arith}
-use lib.Dec.{leb, eqb, lit<}
+use lib.Dec.{leb, ltb, eqb, lit<}
 use lib.Pow.{pow-pos}
 use lib.Bits.{bitAnd, bitOr, bitXor, or-shifted, and-high, and-shr, and-mod, xor-shr, xor-mod}
-use borrow.Author.Tests.{eq-eqb, ne-eqb, le-leb, lt-leb}
+use borrow.Author.Tests.{eq-eqb, ne-eqb, le-leb, lt-leb, lt-ltb, le-ltb, leb-true, leb-false}
 use Rattle.flags.specs.Numbers.{bit, isSet, top, topSet}
 use Rattle.flags.proofs.Powers.{top-twice}
 
@@ -45,6 +45,17 @@ bit-set false = refl
 
 pub mask-top : (n x : ℕ) → 0 < n → x < 2 ^ n → not (eqb (bitAnd x (top n)) 0) ≡ topSet n x
 mask-top n x hn hx = mask-bit (n - 1) x ∙ ap (λ (d : ℕ). eqb d 1) (digit-top n x hn hx) ∙ bit-set (topSet n x)
+
+not-leb : (a b : ℕ) → not (leb a b) ≡ ltb b a
+not-leb a b = by (leb a b) refl
+  where
+    by : (t : Bool) → leb a b ≡ t → not t ≡ ltb b a
+    by true e = sym (le-ltb b a (leb-true a b e))
+    by false e = sym (lt-ltb b a (leb-false a b e))
+
+-- the other way round: the top bit is clear
+pub mask-top-clear : (n x : ℕ) → 0 < n → x < 2 ^ n → eqb (bitAnd x (top n)) 0 ≡ ltb x (top n)
+mask-top-clear n x hn hx = sym (Bool·not-not (eqb (bitAnd x (top n)) 0)) ∙ ap not (mask-top n x hn hx) ∙ not-leb (top n) x
 
 -- the same where the code branches on the test
 pub top-masked : (n x : ℕ) → 0 < n → x < 2 ^ n → (bitAnd x (top n) ≡ 0 → ⊥) → topSet n x ≡ true

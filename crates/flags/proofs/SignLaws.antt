@@ -3,16 +3,15 @@
 use mathlib.Core.Path.{_≡_, refl, sym, ap, _∙_}
 use mathlib.Core.Bool.{Bool, true, false, not, cond, xor}
 use Prim.Native.Nat.{ℕ, zero, suc, _+_, _-_, _*_, _/_, _%_, _^_, _≤_, _<_}
-use native.Mathlib.Nat.{mod-eq-of-lt, mod-self, zero-mul, mul-zero, zero-div, zero-mod}
+use native.Mathlib.Nat.{le-trans, mod-eq-of-lt, mod-self, zero-mul, mul-zero, zero-div, zero-mod, mul-le-mul-right, div-lt-iff-lt-mul, div-add-mod'}
 use native.Mathlib.Omega.{arith}
-use lib.Dec.{ltb, leb}
 use lib.IntN.{ℤ, pos, negsuc, negℤ, natAbs, subℕ, _*ℤ_}
 use lib.Signed.{quotZ, remZ}
-use lib.Pow.{pow-pos}
-use borrow.Author.Tests.{lt-ltb}
-use Rattle.flags.specs.Numbers.{bit, top, topSet, signed, wrapped, negated}
+use lib.Pow.{pow-add, pow-pos}
+use borrow.Author.Tests.{lt-ltb, leb-true, leb-false, le-leb, lt-leb}
+use Rattle.flags.specs.Numbers.{top, topSet, signed, magnitude, wrapped, negated}
 use Rattle.flags.proofs.Powers.{top-twice}
-use Rattle.flags.proofs.SignedLaws.{Diff, above, below, diff-signed, TopIs, top-is}
+use Rattle.flags.proofs.SignedLaws.{TopIs, top-is, same-test}
 
 -- a magnitude with a sign, true for negative
 abbrev pub signOf : Bool → ℕ → ℤ
@@ -108,3 +107,42 @@ plain-by n x hn hx = by (topSet n x) (top-is n x)
     by : (s : Bool) → TopIs s (top n) x → cond s (negated n x) x ≡ cond s (2 ^ n - x) x
     by true h = mod-eq-of-lt (omega (arith, pow-pos (n - 1)))
     by false h = refl
+
+pub magnitude-plain : (n x : ℕ) → x < 2 ^ n → magnitude true n x ≡ plain n x
+magnitude-plain n x hx = ap natAbs (signed-by n x hx) ∙ abs-sign (topSet n x) (plain n x)
+
+-- a sign flipped once more
+pub neg-once-more : (rep s : Bool) (m : ℕ) → cond rep (negℤ (signOf s m)) (signOf s m) ≡ signOf (xor rep s) m
+unfolding xor
+neg-once-more true true m = neg-sign true m
+neg-once-more true false m = neg-sign false m
+neg-once-more false true m = refl
+neg-once-more false false m = refl
+
+pub xor-assoc : (a b c : Bool) → xor (xor a b) c ≡ xor a (xor b c)
+unfolding xor
+xor-assoc true true true = refl
+xor-assoc true true false = refl
+xor-assoc true false true = refl
+xor-assoc true false false = refl
+xor-assoc false true true = refl
+xor-assoc false true false = refl
+xor-assoc false false true = refl
+xor-assoc false false false = refl
+
+-- the sign of 2n bits stands in their upper half
+pub top-upper : (n d : ℕ) → 0 < n → topSet n (d / 2 ^ n) ≡ topSet (n + n) d
+top-upper n d hn =
+    same-test (topSet n (d / 2 ^ n)) (topSet (n + n) d)
+    (λ t. le-leb (top (n + n)) d (at-least (leb-true (top n) (d / 2 ^ n) t)))
+    (λ t. lt-leb (top (n + n)) d (rw tops (div-lt-iff-lt-mul (pow-pos n) .0 (leb-false (top n) (d / 2 ^ n) t))))
+  where
+    tops : top (n + n) ≡ top n * 2 ^ n
+    tops =
+        let a = top-twice n hn in
+        let b = top-twice (n + n) (omega arith) in
+        let c : 2 ^ (n + n) ≡ top n * 2 * 2 ^ n = pow-add 2 n n ∙ ap (λ (x : ℕ). x * 2 ^ n) (sym a) in
+        omega arith
+
+    at-least : top n ≤ d / 2 ^ n → top (n + n) ≤ d
+    at-least h = rw tops (le-trans (mul-le-mul-right (2 ^ n) h) (omega (arith, div-add-mod' d (2 ^ n))))

@@ -15,6 +15,7 @@ use Rattle.flags.proofs.Masks.{top-masked, top-unmasked}
 use Rattle.flags.proofs.SignLaws.{xor-true, xor-false}
 use Rattle.alu.specs.Result.{ResultCoa}
 use Rattle.alu.specs.Sum.{neg, sbb}
+use Rattle.alu.proofs.SumLaws.{neg-result}
 use Rattle.negate.specs.Negate.{Pair, Negate, pair, second, corNegate}
 
 -- two digits to the base m, taken from 0
@@ -66,11 +67,8 @@ pair-is n p {lower} {upper} ha hc el eu =
     c : ℕ
     c = p .tmpc
 
-    c0 : m + 0 - (c + 0) ≡ m - c
-    c0 = omega arith
-
     lower-is : lower .result ≡ (m - c) % m
-    lower-is = ap (λ (r : ResultCoa). r .result) el ∙ ap (λ (x : ℕ). x % m) c0
+    lower-is = neg-result n c el
 
     carry-is : lower .carry ≡ ltb 0 c
     carry-is = ap (λ (r : ResultCoa). r .carry) el ∙ ap (λ (x : ℕ). ltb 0 x) (add-zero c)
@@ -97,13 +95,9 @@ module _ (n b : ℕ) (p : Pair) (hn : 0 < n) (hb : b < 2 ^ n) where
   after b′ carry flag steps = record { tmpa = p .tmpa; tmpb = b′; tmpc = p .tmpc; carry = carry; negFlag = flag; steps = steps }
 
   pub second-negative : {r : ResultCoa} → (bitAnd b (top n) ≡ 0 → ⊥) → r ≡ neg n b → after (r .result) true (not (p .negFlag)) (p .steps + 5) ≡ second n b p
-  unfolding second sbb
-  second-negative {r} t e =
-      rw (top-masked n b hn hb t)
-      (ap₂ (λ (x : ℕ) (s : Bool). after x true s (p .steps + 5)) (ap (λ (r : ResultCoa). r .result) e ∙ ap (λ (x : ℕ). x % 2 ^ n) taken) (sym (xor-true (p .negFlag))))
-    where
-      taken : 2 ^ n + 0 - (b + 0) ≡ 2 ^ n - b
-      taken = omega arith
+  unfolding second
+  second-negative t e =
+      rw (top-masked n b hn hb t) (ap₂ (λ (x : ℕ) (s : Bool). after x true s (p .steps + 5)) (neg-result n b e) (sym (xor-true (p .negFlag))))
 
   pub second-positive : bitAnd b (top n) ≡ 0 → after b false (p .negFlag) (p .steps + 6) ≡ second n b p
   unfolding second

@@ -1,0 +1,261 @@
+-- Divide over the width n: what CORD, PREIDIV and POSTIDIV answer makes up the manual's quotient, remainder and refusals, and the chart's
+-- flags and steps. Assumes nothing.
+use mathlib.Core.Path.{_≡_, refl, sym, ap, ap₂, subst, _∙_}
+use mathlib.Core.Bool.{Bool, true, false, not, cond, xor, _&&_}
+use mathlib.Core.Logic.{_⊎_, inl, inr, ⊎-elim}
+use Prim.Native.Nat.{ℕ, zero, suc, _+_, _-_, _*_, _/_, _%_, _^_, _≤_, _<_}
+use native.Mathlib.Nat.{le-trans, mod-lt, mod-eq-of-lt, div-lt-iff-lt-mul, div-add-mod', mul-comm}
+use native.Mathlib.Omega.{arith}
+use lib.Dec.{leb, ltb, eqb}
+use lib.IntN.{ℤ, pos, negℤ, natAbs}
+use lib.Pow.{pow-pos}
+use lib.Signed.{quotZ, remZ}
+use borrow.Author.Tests.{leb-true, leb-false, ltb-true, ltb-false, le-leb, lt-leb, lt-ltb, le-ltb, eq-eqb, ne-eqb}
+use Rattle.flags.specs.Numbers.{top, topSet, signed, magnitude, wrapped, negated}
+use Rattle.flags.specs.Word.{setCO}
+use Rattle.flags.specs.declared.word.Flags.{Flags}
+use Rattle.flags.proofs.Powers.{top-twice}
+use Rattle.flags.proofs.SignLaws.{signOf, plain, signed-by, abs-sign, quot-sign, rem-sign, wrapped-sign, plain-lt, plain-by, magnitude-plain, neg-once-more, xor-assoc, top-upper}
+use Rattle.negate.specs.Negate.{Pair, Negate}
+use Rattle.divide.proofs.CordLaws.{most-ones}
+use Rattle.divide.specs.Cord as Cord
+use Rattle.divide.specs.Cord.{CordAnswer, lastCompare, cordSteps, cord}
+use Rattle.divide.specs.Idiv as Idiv
+use Rattle.divide.specs.Idiv.{preIdiv, withSign, postIdiv}
+use Rattle.divide.specs.Flags.{compareFlags}
+use Rattle.divide.specs.Divide.{Divided, accepted, refused, accepts, quotientOf, remainderOf, big, small, preSteps, divide}
+use Rattle.divide.specs.declared.div.Refusal.the-variants.{FirstCompare, SignRange}
+
+-- a quotient is below m exactly where the dividend's part above m is below the divisor
+below : (d b m : ℕ) → 0 < m → d / m < b → d / b < m
+below d b m hm h = let hb : 0 < b = omega arith in div-lt-iff-lt-mul hb .1 (subst (λ (x : ℕ). d < x) (mul-comm b m) (div-lt-iff-lt-mul hm .0 h))
+
+-- ---- what CORD's answer tells
+
+module _ (n b d steps : ℕ) where
+  pub when-accepted : {q r : ℕ} {c : Bool} {l t : ℕ} → Cord.accepted q r c l t ≡ cord n b d steps
+      → (d / 2 ^ n < b) × (q ≡ d / b) × (r ≡ d % b) × (c ≡ ltb (d / b) (top n)) × (l ≡ lastCompare n b n d) × (t ≡ steps + cordSteps n b d)
+  unfolding cord
+  when-accepted {q} {r} {c} {l} {t} = by (leb b (d / 2 ^ n)) refl
+    where
+      by : (x : Bool) → leb b (d / 2 ^ n) ≡ x
+          → Cord.accepted q r c l t ≡ cond x (Cord.refused (steps + 4)) (Cord.accepted (d / b) (d % b) (ltb (d / b) (top n)) (lastCompare n b n d) (steps + cordSteps n b d))
+          → (d / 2 ^ n < b) × (q ≡ d / b) × (r ≡ d % b) × (c ≡ ltb (d / b) (top n)) × (l ≡ lastCompare n b n d) × (t ≡ steps + cordSteps n b d)
+      by true x e = let z : _≡_ {A = ℕ} 0 1 = cc in absurd (omega arith)
+      by false x e = (leb-false b (d / 2 ^ n) x, (cc), (cc), (cc), (cc), (cc))
+
+  pub when-refused : {t : ℕ} → Cord.refused t ≡ cord n b d steps → (b ≤ d / 2 ^ n) × (t ≡ steps + 4)
+  unfolding cord
+  when-refused {t} = by (leb b (d / 2 ^ n)) refl
+    where
+      by : (x : Bool) → leb b (d / 2 ^ n) ≡ x
+          → Cord.refused t ≡ cond x (Cord.refused (steps + 4)) (Cord.accepted (d / b) (d % b) (ltb (d / b) (top n)) (lastCompare n b n d) (steps + cordSteps n b d))
+          → (b ≤ d / 2 ^ n) × (t ≡ steps + 4)
+      by true x e = (leb-true b (d / 2 ^ n) x, (cc))
+      by false x e = let z : _≡_ {A = ℕ} 0 1 = cc in absurd (omega arith)
+
+-- and its steps are few
+pub few-steps : (n b d steps : ℕ) {q r : ℕ} {c : Bool} {l t : ℕ} → n ≤ 16 → Cord.accepted q r c l t ≡ cord n b d steps → t ≤ steps + 152
+few-steps n b d steps h e = omega (arith, when-accepted n b d steps e .5, most-ones n b n d)
+
+-- ---- unsigned
+
+module _ (n d b : ℕ) (rep : Bool) (f : Flags) where
+  pub unsigned-refused : {t : ℕ} → Cord.refused t ≡ cord n b d 5 → refused FirstCompare f t ≡ divide n false rep d b f
+  unfolding divide
+  unsigned-refused e =
+      let w = when-refused n b d 5 e in
+      rw (le-ltb (d / 2 ^ n) b (w .0), le-leb b (d / 2 ^ n) (w .0)) (ap (refused FirstCompare f) (w .1))
+
+  pub unsigned-accepted : b < 2 ^ n → {q r : ℕ} {c : Bool} {l t : ℕ} → Cord.accepted q r c l t ≡ cord n b d 5
+      → {g : Flags} → g ≡ compareFlags n l b c f → accepted q r g (t + 2) ≡ divide n false rep d b f
+  unfolding divide wrapped
+  unsigned-accepted hb {q} {r} {c} {l} {t} e {g} eg =
+      let w = when-accepted n b d 5 e in
+      let quotient = w .1 ∙ sym (mod-eq-of-lt (below d b (2 ^ n) (pow-pos n) (w .0))) in
+      let hr : d % b < 2 ^ n = omega (arith, mod-lt d {m = b} (omega (arith, w .0))) in
+      let remainder = w .2 ∙ sym (mod-eq-of-lt hr) in
+      let flags = eg ∙ ap₂ (λ (x : ℕ) (y : Bool). compareFlags n x b y f) (w .4) (w .3) in
+      let steps : t + 2 ≡ 7 + cordSteps n b d = omega (arith, w .5) in
+      rw (lt-ltb (d / 2 ^ n) b (w .0)) (λ i. accepted (quotient i) (remainder i) (flags i) (steps i))
+
+-- ---- signed
+
+pub pre-most : (n d b : ℕ) → preSteps n d b ≤ 13
+pre-most n d b = by (topSet (n + n) d) (topSet n b)
+  where
+    by : (s t : Bool) → cond {A = ℕ} s 7 3 + cond {A = ℕ} t 5 6 ≤ 13
+    by true true = omega arith
+    by true false = omega arith
+    by false true = omega arith
+    by false false = omega arith
+
+-- PREIDIV hands CORD the magnitudes, the sign that the quotient is to have, and its steps
+module _ (n d b : ℕ) (rep : Bool) (hn : 0 < n) (hd : d < 2 ^ (n + n)) (hb : b < 2 ^ n) where
+  abbrev pub halves : Pair
+  halves = record { tmpa = d / 2 ^ n; tmpc = d % 2 ^ n; negFlag = rep; steps = 4 }
+
+  dividend-is : withSign (n + n) (topSet n (d / 2 ^ n)) (d / 2 ^ n * 2 ^ n + d % 2 ^ n) ≡ big n true d
+  dividend-is =
+      ap₂ (withSign (n + n)) (top-upper n d hn) (div-add-mod' d (2 ^ n)) ∙ plain-by (n + n) d (omega arith) hd ∙ sym (magnitude-plain (n + n) d hd)
+
+  module _ {pre : Negate} (e : pre ≡ preIdiv n halves b) where
+    pub pre-dividend : pre .tmpa * 2 ^ n + pre .tmpc ≡ big n true d
+    unfolding preIdiv
+    pre-dividend =
+        ap (λ (r : Negate). r .tmpa * 2 ^ n + r .tmpc) e
+        ∙ div-add-mod' (withSign (n + n) (topSet n (d / 2 ^ n)) (d / 2 ^ n * 2 ^ n + d % 2 ^ n)) (2 ^ n)
+        ∙ dividend-is
+
+    pub pre-divisor : pre .tmpb ≡ small n true b
+    unfolding preIdiv
+    pre-divisor = ap (λ (r : Negate). r .tmpb) e ∙ plain-by n b hn hb ∙ sym (magnitude-plain n b hb)
+
+    pub pre-flag : pre .negFlag ≡ xor rep (xor (topSet (n + n) d) (topSet n b))
+    unfolding preIdiv
+    pre-flag =
+        ap (λ (r : Negate). r .negFlag) e
+        ∙ ap (λ (s : Bool). xor (xor rep s) (topSet n b)) (top-upper n d hn)
+        ∙ xor-assoc rep (topSet (n + n) d) (topSet n b)
+
+    pub pre-steps : pre .steps ≡ 4 + preSteps n d b
+    unfolding preIdiv
+    pre-steps =
+        ap (λ (r : Negate). r .steps) e
+        ∙ ap (λ (s : Bool). 4 + cond s 7 3 + cond (topSet n b) 5 6) (top-upper n d hn)
+        ∙ omega arith
+
+    -- CORD on what PREIDIV hands it
+    pub cord-of-pre : {a : CordAnswer} → a ≡ cord n (pre .tmpb) (pre .tmpa * 2 ^ n + pre .tmpc) (pre .steps + 2)
+        → a ≡ cord n (small n true b) (big n true d) (6 + preSteps n d b)
+    cord-of-pre f =
+        let steps : pre .steps + 2 ≡ 6 + preSteps n d b = omega (arith, pre-steps) in
+        f ∙ λ i. cord n (pre-divisor i) (pre-dividend i) (steps i)
+
+    pub pre-few : pre .steps ≤ 17
+    pre-few = omega (arith, pre-steps, pre-most n d b)
+
+  -- the numbers divided, by sign and magnitude
+  quotient-by : 0 < small n true b → quotientOf n true d b ≡ signOf (xor (topSet (n + n) d) (topSet n b)) (big n true d / small n true b)
+  quotient-by h =
+      ap₂ quotZ (signed-by (n + n) d hd) (signed-by n b hb)
+      ∙ quot-sign (topSet (n + n) d) (topSet n b) (plain (n + n) d) (plain n b) (subst (λ (x : ℕ). 0 < x) (magnitude-plain n b hb) h)
+      ∙ ap₂ (λ (x y : ℕ). signOf (xor (topSet (n + n) d) (topSet n b)) (x / y)) (sym (magnitude-plain (n + n) d hd)) (sym (magnitude-plain n b hb))
+
+  remainder-by : remainderOf n true d b ≡ signOf (topSet (n + n) d) (big n true d % small n true b)
+  remainder-by =
+      ap₂ remZ (signed-by (n + n) d hd) (signed-by n b hb)
+      ∙ rem-sign (topSet (n + n) d) (topSet n b) (plain (n + n) d) (plain n b)
+      ∙ ap₂ (λ (x y : ℕ). signOf (topSet (n + n) d) (x % y)) (sym (magnitude-plain (n + n) d hd)) (sym (magnitude-plain n b hb))
+
+  -- a divisor has the magnitude 0 exactly if it is 0
+  nonzero : 0 < small n true b → eqb b 0 ≡ false
+  nonzero h = ne-eqb b 0 (λ z. omega (arith, magnitude-plain n b hb, zero-plain z))
+    where
+      zero-plain : b ≡ 0 → plain n b ≡ 0
+      zero-plain z = rw (lt-leb (top n) b (omega (arith, pow-pos (n - 1)))) z
+
+  zero-or-not : (0 < small n true b) ⊎ (eqb b 0 ≡ true)
+  zero-or-not = by (small n true b) refl
+    where
+      zero-of : (s : Bool) → cond s (2 ^ n - b) b ≡ 0 → b ≡ 0
+      zero-of true z = absurd (omega arith)
+      zero-of false z = z
+
+      by : (k : ℕ) → small n true b ≡ k → (0 < small n true b) ⊎ (eqb b 0 ≡ true)
+      by zero e = inr (eq-eqb b 0 (zero-of (topSet n b) (sym (magnitude-plain n b hb) ∙ e)))
+      by (suc k) e = inl (omega arith)
+
+  -- the manual's rule for a signed divide, where the divisor is not 0
+  rule : 0 < small n true b → accepts n true d b ≡ ltb (big n true d / small n true b) (top n)
+  rule h = rw (nonzero h) (ap (λ (z : ℤ). ltb (natAbs z) (top n)) (quotient-by h) ∙ ap (λ (k : ℕ). ltb k (top n)) (abs-sign (xor (topSet (n + n) d) (topSet n b)) (big n true d / small n true b)))
+
+  -- refused by the first compare, whatever the reason
+  too-wide : small n true b ≤ big n true d / 2 ^ n → accepts n true d b ≡ false
+  too-wide h = ⊎-elim (λ p. rule p ∙ by p (ltb (big n true d / small n true b) (top n)) refl) (λ z. rw z) zero-or-not
+    where
+      by : 0 < small n true b → (x : Bool) → ltb (big n true d / small n true b) (top n) ≡ x → x ≡ false
+      by p true e =
+          let q : big n true d / small n true b < 2 ^ n = omega (arith, ltb-true (big n true d / small n true b) (top n) e, top-twice n hn) in
+          absurd (omega (arith, below (big n true d) (2 ^ n) (small n true b) p q))
+      by p false e = refl
+
+  module _ (f : Flags) where
+    pub signed-refused : {t : ℕ} → Cord.refused t ≡ cord n (small n true b) (big n true d) (6 + preSteps n d b) → refused FirstCompare f t ≡ divide n true rep d b f
+    unfolding divide
+    signed-refused e =
+        let w = when-refused n (small n true b) (big n true d) (6 + preSteps n d b) e in
+        rw (too-wide (w .0), le-leb (small n true b) (big n true d / 2 ^ n) (w .0)) (ap (refused FirstCompare f) (w .1 ∙ omega arith))
+
+    module _ {q r : ℕ} {c : Bool} {l t : ℕ} (e : Cord.accepted q r c l t ≡ cord n (small n true b) (big n true d) (6 + preSteps n d b)) where
+      w : (big n true d / 2 ^ n < small n true b) × (q ≡ big n true d / small n true b) × (r ≡ big n true d % small n true b)
+          × (c ≡ ltb (big n true d / small n true b) (top n)) × (l ≡ lastCompare n (small n true b) n (big n true d))
+          × (t ≡ 6 + preSteps n d b + cordSteps n (small n true b) (big n true d))
+      w = when-accepted n (small n true b) (big n true d) (6 + preSteps n d b) e
+
+      ruled : accepts n true d b ≡ c
+      ruled = rule (omega (arith, w .0)) ∙ sym (w .3)
+
+      -- refused for sign range
+      pub range-refused : (negate : Bool) {u : ℕ} → Idiv.refused u ≡ postIdiv n r (d / 2 ^ n) q c negate (t + 3) → refused SignRange f u ≡ divide n true rep d b f
+      unfolding divide postIdiv
+      range-refused negate {u} = by c ruled
+        where
+          by : (c : Bool) → accepts n true d b ≡ c
+              → Idiv.refused u ≡ cond c (Idiv.accepted (withSign n negate q) (withSign n (topSet n (d / 2 ^ n)) r) (t + 3 + 10)) (Idiv.refused (t + 3 + 2))
+              → refused SignRange f u ≡ divide n true rep d b f
+          by true x p = let z : _≡_ {A = ℕ} 0 1 = cc in absurd (omega arith)
+          by false x p =
+              let steps : u ≡ t + 3 + 2 = cc in
+              rw (x, lt-leb (small n true b) (big n true d / 2 ^ n) (w .0)) (ap (refused SignRange f) (steps ∙ omega (arith, w .5)))
+
+      -- accepted
+      pub signed-accepted : {negate : Bool} → negate ≡ xor rep (xor (topSet (n + n) d) (topSet n b)) → {q′ r′ u : ℕ}
+          → Idiv.accepted q′ r′ u ≡ postIdiv n r (d / 2 ^ n) q c negate (t + 3)
+          → {k : ℕ} {g h : Flags} → k ≡ small n true b → g ≡ compareFlags n l k c f → h ≡ setCO false false g
+          → accepted q′ r′ h u ≡ divide n true rep d b f
+      unfolding divide postIdiv
+      signed-accepted {negate} en {q′} {r′} {u} = by c ruled (w .3)
+        where
+          quotient : big n true d / small n true b < top n
+              → withSign n negate q ≡ wrapped n (cond rep (negℤ (quotientOf n true d b)) (quotientOf n true d b))
+          quotient s =
+              ap₂ (withSign n) en (w .1)
+              ∙ sym (wrapped-sign n (xor rep (xor (topSet (n + n) d) (topSet n b))) (big n true d / small n true b) (omega (arith, top-twice n hn)))
+              ∙ ap (wrapped n) (sym (neg-once-more rep (xor (topSet (n + n) d) (topSet n b)) (big n true d / small n true b)))
+              ∙ ap (λ (z : ℤ). wrapped n (cond rep (negℤ z) z)) (sym (quotient-by (omega (arith, w .0))))
+
+          small-rest : big n true d % small n true b < 2 ^ n
+          small-rest =
+              omega (arith, mod-lt (big n true d) {m = small n true b} (omega (arith, w .0)), magnitude-plain n b hb, plain-lt n b hn hb)
+
+          remainder : withSign n (topSet n (d / 2 ^ n)) r ≡ wrapped n (remainderOf n true d b)
+          remainder =
+              ap₂ (withSign n) (top-upper n d hn) (w .2)
+              ∙ sym (wrapped-sign n (topSet (n + n) d) (big n true d % small n true b) small-rest)
+              ∙ ap (wrapped n) (sym remainder-by)
+
+          by : (c : Bool) → accepts n true d b ≡ c → c ≡ ltb (big n true d / small n true b) (top n)
+              → Idiv.accepted q′ r′ u ≡ cond c (Idiv.accepted (withSign n negate q) (withSign n (topSet n (d / 2 ^ n)) r) (t + 3 + 10)) (Idiv.refused (t + 3 + 2))
+              → {k : ℕ} {g h : Flags} → k ≡ small n true b → g ≡ compareFlags n l k c f → h ≡ setCO false false g
+              → accepted q′ r′ h u ≡ divide n true rep d b f
+          by false x y p ek eg eh = let z : _≡_ {A = ℕ} 0 1 = cc in absurd (omega arith)
+          by true x y p {k} {g} {h} ek eg eh =
+              let s = ltb-true (big n true d / small n true b) (top n) (sym y) in
+              let eq : q′ ≡ withSign n negate q = cc in
+              let er : r′ ≡ withSign n (topSet n (d / 2 ^ n)) r = cc in
+              let eu : u ≡ t + 3 + 10 = cc in
+              let flags : h ≡ setCO false false (compareFlags n (lastCompare n (small n true b) n (big n true d)) (small n true b) (ltb (big n true d / small n true b) (top n)) f) =
+              eh ∙ ap (setCO false false) (eg ∙ λ i. compareFlags n (w .4 i) (ek i) (y i) f) in
+              let steps : u ≡ 19 + preSteps n d b + cordSteps n (small n true b) (big n true d) = eu ∙ omega (arith, w .5) in
+              rw x (λ i. accepted ((eq ∙ quotient s) i) ((er ∙ remainder) i) (flags i) (steps i))
+
+-- ---- signed or not; REP changes nothing of an unsigned divide
+
+module _ (n d b : ℕ) (f : Flags) (rep : Bool) {s : Bool} {r : Divided} where
+  pub when-signed : s ≡ true → r ≡ divide n true rep d b f → r ≡ divide n s rep d b f
+  when-signed t e = rw t e
+
+  pub when-unsigned : s ≡ false → r ≡ divide n false false d b f → r ≡ divide n s rep d b f
+  unfolding divide
+  when-unsigned t e = rw t e

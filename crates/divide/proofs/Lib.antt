@@ -1,0 +1,4 @@
+pub mod CordLaws
+pub mod IdivLaws
+pub mod FlagLaws
+pub mod DivLaws

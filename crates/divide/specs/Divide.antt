@@ -1,0 +1,77 @@
+-- Divide: 2n bits by n bits. Quotient, remainder and refusals are the manual's; REP, flags and steps are the chart's.
+-- Assumes nothing.
+use mathlib.Core.Bool.{Bool, true, false, not, cond, _&&_}
+use Prim.Native.Nat.{ℕ, _+_, _*_, _/_, _%_, _^_}
+use lib.Dec.{leb, ltb, eqb}
+use lib.IntN.{ℤ, negℤ, natAbs}
+use lib.Signed.{quotZ, remZ}
+use Rattle.flags.specs.Numbers.{top, topSet, valued, magnitude, wrapped}
+use Rattle.flags.specs.Word.{setCO}
+use Rattle.flags.specs.declared.word.Flags.{Flags}
+use Rattle.divide.specs.Cord.{lastCompare, cordSteps}
+use Rattle.divide.specs.Flags.{compareFlags}
+use Rattle.divide.specs.declared.div.Refusal.{Refusal}
+use Rattle.divide.specs.declared.div.Refusal.the-variants.{FirstCompare, SignRange}
+
+pub data Divided : Type 0 where
+  accepted : (quotient remainder : ℕ) (flags : Flags) (steps : ℕ) → Divided
+  refused : (refusal : Refusal) (flags : Flags) (steps : ℕ) → Divided
+
+-- the numbers that the dividend d and the divisor b stand for, divided: the quotient cut towards zero, the remainder with the dividend's sign
+abbrev pub quotientOf : ℕ → Bool → ℕ → ℕ → ℤ
+quotientOf n s d b = quotZ (valued s (n + n) d) (valued s n b)
+
+abbrev pub remainderOf : ℕ → Bool → ℕ → ℕ → ℤ
+remainderOf n s d b = remZ (valued s (n + n) d) (valued s n b)
+
+-- unsigned, accepted exactly if the dividend's upper half is below the divisor; signed, exactly if the divisor is not 0 and the quotient's
+-- magnitude is at most 2 ^ (n - 1) - 1
+abbrev pub accepts : ℕ → Bool → ℕ → ℕ → Bool
+accepts n false d b = ltb (d / 2 ^ n) b
+accepts n true d b = not (eqb b 0) && ltb (natAbs (quotientOf n true d b)) (top n)
+
+-- CORD works on the magnitudes
+abbrev pub big : ℕ → Bool → ℕ → ℕ
+big n s d = magnitude s (n + n) d
+
+abbrev pub small : ℕ → Bool → ℕ → ℕ
+small n s b = magnitude s n b
+
+-- a refusal comes from the first compare of upper half and divisor, or else for sign range
+abbrev pub refusalOf : ℕ → Bool → ℕ → ℕ → Refusal
+refusalOf n s d b = cond (leb (small n s b) (big n s d / 2 ^ n)) FirstCompare SignRange
+
+-- PREIDIV: 3 steps for a dividend at least 0, else 7, plus 5 for a negative divisor, else 6
+abbrev pub preSteps : ℕ → ℕ → ℕ → ℕ
+preSteps n d b = cond (topSet (n + n) d) 7 3 + cond (topSet n b) 5 6
+
+abbrev pub acceptedSteps : ℕ → Bool → ℕ → ℕ → ℕ
+acceptedSteps n false d b = 7 + cordSteps n b d
+acceptedSteps n true d b = 19 + preSteps n d b + cordSteps n (small n true b) (big n true d)
+
+abbrev pub refusedSteps : ℕ → Bool → Refusal → ℕ → ℕ → ℕ
+refusedSteps n false refusal d b = 9
+refusedSteps n true FirstCompare d b = 10 + preSteps n d b
+refusedSteps n true SignRange d b = 11 + preSteps n d b + cordSteps n (small n true b) (big n true d)
+
+-- A, O, S, Z and P of the last compare made; C is set exactly if the quotient's magnitude is below 2 ^ (n - 1). Signed success clears C and O
+abbrev pub cordFlags : ℕ → ℕ → ℕ → Flags → Flags
+cordFlags n b d f = compareFlags n (lastCompare n b n d) b (ltb (d / b) (top n)) f
+
+abbrev pub acceptedFlags : ℕ → Bool → ℕ → ℕ → Flags → Flags
+acceptedFlags n false d b f = cordFlags n b d f
+acceptedFlags n true d b f = setCO false false (cordFlags n (small n true b) (big n true d) f)
+
+-- after a refusal, those handed in
+abbrev pub refusedFlags : Refusal → Flags → Flags
+refusedFlags refusal f = f
+
+-- REP negates a signed quotient
+abbrev pub returned : Bool → Bool → ℤ → ℤ
+returned s rep q = cond (s && rep) (negℤ q) q
+
+unfoldable pub divide : ℕ → Bool → Bool → ℕ → ℕ → Flags → Divided
+divide n s rep d b f =
+    cond (accepts n s d b)
+    (accepted (wrapped n (returned s rep (quotientOf n s d b))) (wrapped n (remainderOf n s d b)) (acceptedFlags n s d b f) (acceptedSteps n s d b))
+    (refused (refusalOf n s d b) (refusedFlags (refusalOf n s d b) f) (refusedSteps n s (refusalOf n s d b) d b))

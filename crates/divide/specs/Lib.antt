@@ -1,0 +1,6 @@
+pub mod Round
+pub mod Cord
+pub mod Idiv
+pub mod Flags
+pub mod Divide
+pub mod Views

@@ -1,0 +1,184 @@
+// CORD, the microcode's divide: the dividend leaves its register by the left, a bit a round, as the
+// quotient comes in from the right. The chip gathers the quotient's complement and turns it at the
+// end; here the quotient itself is gathered.
+ghost use mathlib.Core.Path.{_≡_};
+ghost use Prim.Native.Nat.{_+_, _*_, _<_};
+ghost use Rattle.divide.specs.Round.{cordRound};
+ghost use Rattle.divide.specs.Cord.{cord};
+ghost use Rattle.divide.specs.Views.{round8, round16, cord8Answer, cord16Answer};
+use alu::step;
+use alu::subtraction;
+use flags::width::Byte;
+use flags::width::Word;
+
+// Besides the halves and the steps: the left side of the last compare made, which sets the flags.
+pub struct CordRound8 {
+    pub tmpa: u8,
+    pub tmpc: u8,
+    pub compared: u8,
+    pub steps: u16,
+}
+
+pub enum CordAnswer8 {
+    Accepted {
+        quotient: u8,
+        remainder: u8,
+        carry: bool,
+        compared: u8,
+        steps: u16,
+    },
+    Refused {
+        steps: u16,
+    },
+}
+
+// A round, without the jump back, by one of three roads: a bit shifted out, no borrow, borrow.
+fn cord_round8(from: CordRound8, tmpb: u8) -> CordRound8
+    requires { ⌜ (from .tmpa < tmpb) × (from .steps < 1000) ⌝ }
+    ensures { λ r. ⌜ round8 r ≡ cordRound 8 tmpb (round8 from) ⌝ }
+{
+    let lower = step::left8(false, from.tmpc);
+    let upper = step::left8(lower.carry, from.tmpa);
+    if upper.carry {
+        let rest = subtraction::alu_sub8(upper.value, tmpb);
+        return CordRound8 {
+            tmpa: rest.result,
+            tmpc: lower.value | 1,
+            compared: from.compared,
+            steps: from.steps + 7,
+        };
+    }
+    if tmpb <= upper.value {
+        CordRound8 {
+            tmpa: upper.value - tmpb,
+            tmpc: lower.value | 1,
+            compared: upper.value,
+            steps: from.steps + 8,
+        }
+    } else {
+        CordRound8 {
+            tmpa: upper.value,
+            tmpc: lower.value,
+            compared: upper.value,
+            steps: from.steps + 7,
+        }
+    }
+}
+
+// The quotient fits its half exactly if the upper half is below the divisor, so one compare refuses.
+pub fn cord8(tmpa: u8, tmpb: u8, tmpc: u8, steps: u16) -> CordAnswer8
+    requires { ⌜ steps < 100 ⌝ }
+    ensures { λ r. ⌜ cord8Answer r ≡ cord 8 tmpb (tmpa * 0x100 + tmpc) steps ⌝ }
+{
+    if tmpb <= tmpa {
+        return CordAnswer8::Refused { steps: steps + 4 };
+    }
+    let mut at = CordRound8 {
+        tmpa,
+        tmpc,
+        compared: tmpa,
+        steps: steps + 3,
+    };
+    let mut internal_counter = Byte::BITS;
+    let end = loop {
+        at = cord_round8(at, tmpb);
+        internal_counter -= 1;
+        if internal_counter == 0 {
+            break at;
+        }
+        at.steps += 1;
+    };
+    CordAnswer8::Accepted {
+        quotient: end.tmpc,
+        remainder: end.tmpa,
+        carry: end.tmpc & Byte::TOP == 0,
+        compared: end.compared,
+        steps: end.steps + 4 + 2 * (end.tmpc & 1) as u16,
+    }
+}
+
+// Besides the halves and the steps: the left side of the last compare made, which sets the flags.
+pub struct CordRound16 {
+    pub tmpa: u16,
+    pub tmpc: u16,
+    pub compared: u16,
+    pub steps: u16,
+}
+
+pub enum CordAnswer16 {
+    Accepted {
+        quotient: u16,
+        remainder: u16,
+        carry: bool,
+        compared: u16,
+        steps: u16,
+    },
+    Refused {
+        steps: u16,
+    },
+}
+
+// A round, without the jump back, by one of three roads: a bit shifted out, no borrow, borrow.
+fn cord_round16(from: CordRound16, tmpb: u16) -> CordRound16
+    requires { ⌜ (from .tmpa < tmpb) × (from .steps < 1000) ⌝ }
+    ensures { λ r. ⌜ round16 r ≡ cordRound 16 tmpb (round16 from) ⌝ }
+{
+    let lower = step::left16(false, from.tmpc);
+    let upper = step::left16(lower.carry, from.tmpa);
+    if upper.carry {
+        let rest = subtraction::alu_sub16(upper.value, tmpb);
+        return CordRound16 {
+            tmpa: rest.result,
+            tmpc: lower.value | 1,
+            compared: from.compared,
+            steps: from.steps + 7,
+        };
+    }
+    if tmpb <= upper.value {
+        CordRound16 {
+            tmpa: upper.value - tmpb,
+            tmpc: lower.value | 1,
+            compared: upper.value,
+            steps: from.steps + 8,
+        }
+    } else {
+        CordRound16 {
+            tmpa: upper.value,
+            tmpc: lower.value,
+            compared: upper.value,
+            steps: from.steps + 7,
+        }
+    }
+}
+
+// The quotient fits its half exactly if the upper half is below the divisor, so one compare refuses.
+pub fn cord16(tmpa: u16, tmpb: u16, tmpc: u16, steps: u16) -> CordAnswer16
+    requires { ⌜ steps < 100 ⌝ }
+    ensures { λ r. ⌜ cord16Answer r ≡ cord 16 tmpb (tmpa * 0x1_0000 + tmpc) steps ⌝ }
+{
+    if tmpb <= tmpa {
+        return CordAnswer16::Refused { steps: steps + 4 };
+    }
+    let mut at = CordRound16 {
+        tmpa,
+        tmpc,
+        compared: tmpa,
+        steps: steps + 3,
+    };
+    let mut internal_counter = Word::BITS;
+    let end = loop {
+        at = cord_round16(at, tmpb);
+        internal_counter -= 1;
+        if internal_counter == 0 {
+            break at;
+        }
+        at.steps += 1;
+    };
+    CordAnswer16::Accepted {
+        quotient: end.tmpc,
+        remainder: end.tmpa,
+        carry: end.tmpc & Word::TOP == 0,
+        compared: end.compared,
+        steps: end.steps + 4 + 2 * (end.tmpc & 1),
+    }
+}
