@@ -171,13 +171,13 @@ pushed c t l q p r hl hq e =
     (rw d (digits-div t small), rw d (digits-mod t small))
 
 -- a prefix with one bit more: its quotient and remainder by whether the divisor fits
-fits-once : (b p t h : ℕ) → h ≡ p % b * 2 + t → t < 2 → b ≤ h → p % b < b → ((p * 2 + t) / b ≡ p / b * 2 + 1) × ((p * 2 + t) % b ≡ h - b)
+pub fits-once : (b p t h : ℕ) → h ≡ p % b * 2 + t → t < 2 → b ≤ h → p % b < b → ((p * 2 + t) / b ≡ p / b * 2 + 1) × ((p * 2 + t) % b ≡ h - b)
 fits-once b p t h eh ht hb hr =
     let s = div-add-mod' p b in
     let d : p * 2 + t ≡ (p / b * 2 + 1) * b + (h - b) = ap (λ (x : ℕ). x * 2 + t) (sym s) ∙ omega arith in
     (ap (λ (x : ℕ). x / b) d ∙ digits-div (p / b * 2 + 1) (omega arith), ap (λ (x : ℕ). x % b) d ∙ digits-mod (p / b * 2 + 1) (omega arith))
 
-fits-not : (b p t h : ℕ) → h ≡ p % b * 2 + t → h < b → ((p * 2 + t) / b ≡ p / b * 2) × ((p * 2 + t) % b ≡ h)
+pub fits-not : (b p t h : ℕ) → h ≡ p % b * 2 + t → h < b → ((p * 2 + t) / b ≡ p / b * 2) × ((p * 2 + t) % b ≡ h)
 fits-not b p t h eh hb =
     let s = div-add-mod' p b in
     let d : p * 2 + t ≡ p / b * 2 * b + h = ap (λ (x : ℕ). x * 2 + t) (sym s) ∙ omega arith in

@@ -27,7 +27,7 @@ use Rattle.divide.specs.Divide.{Divided, accepted, refused, accepts, quo
 use Rattle.divide.specs.declared.div.Refusal.the-variants.{FirstCompare, SignRange}
 
 -- a quotient is below m exactly where the dividend's part above m is below the divisor
-below : (d b m : ℕ) → 0 < m → d / m < b → d / b < m
+pub below : (d b m : ℕ) → 0 < m → d / m < b → d / b < m
 below d b m hm h = let hb : 0 < b = omega arith in div-lt-iff-lt-mul hb .1 (subst (λ (x : ℕ). d < x) (mul-comm b m) (div-lt-iff-lt-mul hm .0 h))
 
 -- ---- what CORD's answer tells
@@ -136,7 +136,7 @@ module _ (n d b : ℕ) (rep : Bool) (hn : 0 < n) (hd : d < 2 ^ (n + n)) (hb : b 
     pre-few = omega (arith, pre-steps, pre-most n d b)
 
   -- the numbers divided, by sign and magnitude
-  quotient-by : 0 < small n true b → quotientOf n true d b ≡ signOf (xor (topSet (n + n) d) (topSet n b)) (big n true d / small n true b)
+  pub quotient-by : 0 < small n true b → quotientOf n true d b ≡ signOf (xor (topSet (n + n) d) (topSet n b)) (big n true d / small n true b)
   quotient-by h =
       ap₂ quotZ (signed-by (n + n) d hd) (signed-by n b hb)
       ∙ quot-sign (topSet (n + n) d) (topSet n b) (plain (n + n) d) (plain n b) (subst (λ (x : ℕ). 0 < x) (magnitude-plain n b hb) h)
@@ -155,7 +155,7 @@ module _ (n d b : ℕ) (rep : Bool) (hn : 0 < n) (hd : d < 2 ^ (n + n)) (hb : b 
       zero-plain : b ≡ 0 → plain n b ≡ 0
       zero-plain z = rw (lt-leb (top n) b (omega (arith, pow-pos (n - 1)))) z
 
-  zero-or-not : (0 < small n true b) ⊎ (eqb b 0 ≡ true)
+  pub zero-or-not : (0 < small n true b) ⊎ (eqb b 0 ≡ true)
   zero-or-not = by (small n true b) refl
     where
       zero-of : (s : Bool) → cond s (2 ^ n - b) b ≡ 0 → b ≡ 0
@@ -167,7 +167,7 @@ module _ (n d b : ℕ) (rep : Bool) (hn : 0 < n) (hd : d < 2 ^ (n + n)) (hb : b 
       by (suc k) e = inl (omega arith)
 
   -- the manual's rule for a signed divide, where the divisor is not 0
-  rule : 0 < small n true b → accepts n true d b ≡ ltb (big n true d / small n true b) (top n)
+  pub rule : 0 < small n true b → accepts n true d b ≡ ltb (big n true d / small n true b) (top n)
   rule h = rw (nonzero h) (ap (λ (z : ℤ). ltb (natAbs z) (top n)) (quotient-by h) ∙ ap (λ (k : ℕ). ltb k (top n)) (abs-sign (xor (topSet (n + n) d) (topSet n b)) (big n true d / small n true b)))
 
   -- refused by the first compare, whatever the reason

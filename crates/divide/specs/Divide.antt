@@ -17,6 +17,11 @@ pub data Divided : Type 0 where
   accepted : (quotient remainder : ℕ) (flags : Flags) (steps : ℕ) → Divided
   refused : (refusal : Refusal) (flags : Flags) (steps : ℕ) → Divided
 
+-- what the step log shows of an answer
+abbrev pub stepsOf : Divided → ℕ
+stepsOf (accepted q r f t) = t
+stepsOf (refused why f t) = t
+
 -- the numbers that the dividend d and the divisor b stand for, divided: the quotient cut towards zero, the remainder with the dividend's sign
 abbrev pub quotientOf : ℕ → Bool → ℕ → ℕ → ℤ
 quotientOf n s d b = quotZ (valued s (n + n) d) (valued s n b)

@@ -6,20 +6,30 @@ use mathlib.Core.List.{List, [], _∷_}
 use Prim.Native.Nat.{ℕ}
 use Rattle.flags.specs.Numbers.{bit}
 use Rattle.flags.specs.Word.{wordOf, flagsOf, setCO, setCOA}
+use Rattle.flags.specs.declared.word.Flags.{Flags}
 use Rattle.alu.specs.Result.{ResultCo, ResultCoa}
 use Rattle.alu.specs.Sum.{adc, sbb}
 use Rattle.alu.specs.Shift.{shl, rcl}
+use Rattle.divide.specs.Divide.{Divided, accepted, refused, divide}
 
 pub record Marked : Type 0 where
   pub gives : List ℕ
   pub says : List ℕ
 
--- an ALU result, and the flags word that it leaves of 0000
+abbrev none : Flags
+none = flagsOf 0
+
+-- an ALU result, and the flags word that it leaves of none
 abbrev sum : ResultCoa → List ℕ
-sum r = r .result ∷ wordOf (setCOA (r .carry) (r .overflow) (r .auxCarry) (flagsOf 0)) ∷ []
+sum r = r .result ∷ wordOf (setCOA (r .carry) (r .overflow) (r .auxCarry) none) ∷ []
 
 abbrev shifted : ResultCo → List ℕ
-shifted r = r .result ∷ wordOf (setCO (r .carry) (r .overflow) (flagsOf 0)) ∷ []
+shifted r = r .result ∷ wordOf (setCO (r .carry) (r .overflow) none) ∷ []
+
+-- a divide: status 0, quotient, remainder and steps; or status 6 and steps
+abbrev divided : Divided → List ℕ
+divided (accepted q r f t) = 0 ∷ q ∷ r ∷ t ∷ []
+divided (refused why f t) = 6 ∷ t ∷ []
 
 abbrev pub marked : List Marked
 marked =
@@ -32,4 +42,13 @@ marked =
     -- M4: SHL8 01 by 8 is 00, C O; by 9 C is clear
     ∷ record { gives = shifted (shl 8 0x01 8); says = 0x00 ∷ 0x0801 ∷ [] }
     ∷ record { gives = bit (shl 8 0x01 9 .carry) ∷ []; says = 0 ∷ [] }
+    -- M7 and M8: 00FF / FF is 1 r 0 in 80 steps, 0100 / C8 is 1 r 38 in 79
+    ∷ record { gives = divided (divide 8 false false 0x00FF 0xFF none); says = 0 ∷ 0x01 ∷ 0x00 ∷ 80 ∷ [] }
+    ∷ record { gives = divided (divide 8 false false 0x0100 0xC8 none); says = 0 ∷ 0x01 ∷ 0x38 ∷ 79 ∷ [] }
+    -- M9: signed FF81 / 01 is 81 r 0 in 111 steps; FF80 / 01 is refused after 95
+    ∷ record { gives = divided (divide 8 true false 0xFF81 0x01 none); says = 0 ∷ 0x81 ∷ 0x00 ∷ 111 ∷ [] }
+    ∷ record { gives = divided (divide 8 true false 0xFF80 0x01 none); says = 6 ∷ 95 ∷ [] }
+    -- M10: signed FFF9 / 02 is FD r FF, and FFF5 / 03 is FD r FE, both in 106 steps
+    ∷ record { gives = divided (divide 8 true false 0xFFF9 0x02 none); says = 0 ∷ 0xFD ∷ 0xFF ∷ 106 ∷ [] }
+    ∷ record { gives = divided (divide 8 true false 0xFFF5 0x03 none); says = 0 ∷ 0xFD ∷ 0xFE ∷ 106 ∷ [] }
     ∷ []
