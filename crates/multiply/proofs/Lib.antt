@@ -1,0 +1,3 @@
+pub mod CorxLaws
+pub mod CarryLaws
+pub mod MulLaws

@@ -1,0 +1,4 @@
+pub mod Corx
+pub mod Views
+pub mod Routines
+pub mod Multiply
