@@ -1,15 +1,15 @@
 -- The flags word taken apart and put together: each undoes the other within 08D5, and together never leaves it.
 -- Assumes nothing.
-use mathlib.Core.Path.{_≡_, refl, ap, _∙_}
+use mathlib.Core.Path.{_≡_, refl, ap, subst, _∙_}
 use mathlib.Core.Bool.{Bool, true, false}
 use Prim.Native.Nat.{ℕ, zero, suc, _+_, _*_, _/_, _%_, _^_, _≤_, _<_}
 use native.Mathlib.Nat.{mod-lt, mod-eq-of-lt}
 use native.Mathlib.Omega.{arith}
 use lib.Bits.{bitOr, or-shifted}
 use lib.Dec.{eqb, lit<}
-use lib.Pow.{pow-pos}
+use borrow.Author.Tests.{eqb-true, eq-eqb}
 use Rattle.flags.specs.Numbers.{bit, isSet}
-use Rattle.flags.specs.Word.{wordOf, flagsOf, Within}
+use Rattle.flags.specs.Word.{wordOf, flagsOf, Within, isFlags}
 use Rattle.flags.specs.declared.word.Flags.{Flags}
 
 pub bit-le : (b : Bool) → bit b ≤ 1
@@ -110,3 +110,12 @@ pushed-six f =
     let w7 = push 2 _ (bit (f .«aux_carry»)) w5 (omega arith) (omega arith) in
     let w9 = push 2 _ (bit (f .parity)) w7 (omega arith) (omega arith) in
     push 2 _ (bit (f .carry)) w9 (omega arith) (omega arith) ∙ omega arith
+
+-- the test is exact
+pub flags-within : (w : ℕ) → isFlags w ≡ true → Within w
+unfolding isFlags
+flags-within w e = subst Within (eqb-true (wordOf (flagsOf w)) w e) (together-within (flagsOf w))
+
+pub within-flags : (w : ℕ) → Within w → isFlags w ≡ true
+unfolding isFlags
+within-flags w h = eq-eqb (wordOf (flagsOf w)) w (together-apart w h)

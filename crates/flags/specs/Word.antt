@@ -3,6 +3,7 @@
 use mathlib.Core.Path.{_≡_}
 use mathlib.Core.Bool.{Bool}
 use Prim.Native.Nat.{ℕ, _+_, _*_, _/_, _%_, _<_}
+use lib.Dec.{eqb}
 use Rattle.flags.specs.Numbers.{bit, isSet}
 use Rattle.flags.specs.declared.word.Flags.{Flags}
 
@@ -31,6 +32,10 @@ pub record Within (w : ℕ) : Type 0 where
   pub bit5 : w / 32 % 2 ≡ 0
   pub bits8to10 : w / 256 % 8 ≡ 0
   pub above : w < 4096
+
+-- the test of that: the flags of the word, put together, are the word
+unfoldable pub isFlags : ℕ → Bool
+isFlags w = eqb (wordOf (flagsOf w)) w
 
 abbrev pub setC : Bool → Flags → Flags
 setC c f =

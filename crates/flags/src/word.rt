@@ -1,6 +1,6 @@
 // The flags word, taken apart into a record of its six flags and put together again.
 ghost use mathlib.Core.Path.{_≡_};
-ghost use Rattle.flags.specs.Word.{flagsOf, wordOf, setC, setCO, setCOA};
+ghost use Rattle.flags.specs.Word.{flagsOf, wordOf, isFlags, setC, setCO, setCOA};
 
 pub struct Flags {
     pub carry: bool,
@@ -48,6 +48,13 @@ impl Flags {
         word = (word << 2) | self.aux_carry as u16;
         word = (word << 2) | self.parity as u16;
         (word << 2) | self.carry as u16
+    }
+
+    // Whether every bit of the word is a flag: such a word comes back from being taken apart.
+    pub fn is_flags(word: u16) -> bool
+        ensures { λ r. ⌜ r ≡ isFlags word ⌝ }
+    {
+        Flags::from_word(word).to_word() == word
     }
 
     // What an operation that names C alone leaves: the other five as handed in.
