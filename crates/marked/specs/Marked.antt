@@ -1,7 +1,7 @@
 -- The scope's marked examples, in its order: what the definitions give, beside what the scope says. An example says as much as the scope
 -- does: a result, a flags word from no flags set, or a single flag.
 -- Assumes nothing.
-use mathlib.Core.Bool.{Bool, true, false}
+use mathlib.Core.Bool.{true, false}
 use mathlib.Core.List.{List, [], _∷_}
 use Prim.Native.Nat.{ℕ}
 use Rattle.flags.specs.Numbers.{bit}
@@ -10,6 +10,8 @@ use Rattle.flags.specs.declared.word.Flags.{Flags}
 use Rattle.alu.specs.Result.{ResultCo, ResultCoa}
 use Rattle.alu.specs.Sum.{adc, sbb}
 use Rattle.alu.specs.Shift.{shl, rcl}
+use Rattle.multiply.specs.Routines.{Multiplied}
+use Rattle.multiply.specs.Multiply.{multiply}
 use Rattle.divide.specs.Divide.{Divided, accepted, refused, divide}
 
 pub record Marked : Type 0 where
@@ -25,6 +27,10 @@ sum r = r .result ∷ wordOf (setCOA (r .carry) (r .overflow) (r .auxCarry) none
 
 abbrev shifted : ResultCo → List ℕ
 shifted r = r .result ∷ wordOf (setCO (r .carry) (r .overflow) none) ∷ []
+
+-- a product and its steps
+abbrev product : Multiplied → List ℕ
+product m = m .product ∷ m .steps ∷ []
 
 -- a divide: status 0, quotient, remainder and steps; or status 6 and steps
 abbrev divided : Divided → List ℕ
@@ -42,6 +48,11 @@ marked =
     -- M4: SHL8 01 by 8 is 00, C O; by 9 C is clear
     ∷ record { gives = shifted (shl 8 0x01 8); says = 0x00 ∷ 0x0801 ∷ [] }
     ∷ record { gives = bit (shl 8 0x01 9 .carry) ∷ []; says = 0 ∷ [] }
+    -- M5: signed 80 x 80 is 4000 in 78 steps; under REP C000 in 89
+    ∷ record { gives = product (multiply 8 true false 0x80 0x80 none); says = 0x4000 ∷ 78 ∷ [] }
+    ∷ record { gives = product (multiply 8 true true 0x80 0x80 none); says = 0xC000 ∷ 89 ∷ [] }
+    -- M6: unsigned FF x FF is FE01 in 74 steps
+    ∷ record { gives = product (multiply 8 false false 0xFF 0xFF none); says = 0xFE01 ∷ 74 ∷ [] }
     -- M7 and M8: 00FF / FF is 1 r 0 in 80 steps, 0100 / C8 is 1 r 38 in 79
     ∷ record { gives = divided (divide 8 false false 0x00FF 0xFF none); says = 0 ∷ 0x01 ∷ 0x00 ∷ 80 ∷ [] }
     ∷ record { gives = divided (divide 8 false false 0x0100 0xC8 none); says = 0 ∷ 0x01 ∷ 0x38 ∷ 79 ∷ [] }
