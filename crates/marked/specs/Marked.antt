@@ -13,6 +13,8 @@ use Rattle.alu.specs.Shift.{shl, rcl}
 use Rattle.multiply.specs.Routines.{Multiplied}
 use Rattle.multiply.specs.Multiply.{multiply}
 use Rattle.divide.specs.Divide.{Divided, accepted, refused, divide}
+use Rattle.bcd.specs.Ascii.{aaaOf}
+use Rattle.bcd.specs.Decimal.{daaOf}
 
 pub record Marked : Type 0 where
   pub gives : List ℕ
@@ -20,6 +22,9 @@ pub record Marked : Type 0 where
 
 abbrev none : Flags
 none = flagsOf 0
+
+abbrev onlyA : Flags
+onlyA = flagsOf 0x0010
 
 -- an ALU result, and the flags word that it leaves of none
 abbrev sum : ResultCoa → List ℕ
@@ -62,4 +67,9 @@ marked =
     -- M10: signed FFF9 / 02 is FD r FF, and FFF5 / 03 is FD r FE, both in 106 steps
     ∷ record { gives = divided (divide 8 true false 0xFFF9 0x02 none); says = 0 ∷ 0xFD ∷ 0xFF ∷ 106 ∷ [] }
     ∷ record { gives = divided (divide 8 true false 0xFFF5 0x03 none); says = 0 ∷ 0xFD ∷ 0xFE ∷ 106 ∷ [] }
+    -- M11: AAA of 00FA with A clear is 0100, with Z set
+    ∷ record { gives = aaaOf 0x00FA none .ax ∷ bit (aaaOf 0x00FA none .flags .zero) ∷ []; says = 0x0100 ∷ 1 ∷ [] }
+    -- M12: DAA of 9A with C clear: with A set A0 and C clear, with A clear 00 and C
+    ∷ record { gives = daaOf 0x9A onlyA .ax ∷ bit (daaOf 0x9A onlyA .flags .carry) ∷ []; says = 0xA0 ∷ 0 ∷ [] }
+    ∷ record { gives = daaOf 0x9A none .ax ∷ bit (daaOf 0x9A none .flags .carry) ∷ []; says = 0x00 ∷ 1 ∷ [] }
     ∷ []

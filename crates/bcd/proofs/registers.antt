@@ -1,0 +1,3 @@
+-- What the five functions over a lent record share: one walk, and one with a byte handed on.
+mod Thin
+mod ThinBy

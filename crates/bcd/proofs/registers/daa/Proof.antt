@@ -1,0 +1,14 @@
+-- `bcd::registers::daa` meets its contract, by the one walk of `Thin`, at `daa_outcome`. Assumes nothing.
+use Rattle.bcd.specs.Decimal.{daaOf}
+use Rattle.bcd.specs.Over.{over}
+use Rattle.bcd.proofs.registers.Thin.{thin-spec}
+use Rattle.bcd.proofs.registers.daa_outcome.Symbol as g-def
+use Rattle.bcd.proofs.registers.daa_outcome.Met as g-thm
+use Rattle.bcd.proofs.registers.daa.Key.{name as #f}
+use Rattle.bcd.proofs.registers.daa.Statement as stated
+use Rattle.bcd.proofs.registers.daa.Code as code
+
+pub daa-spec : {M : Type 1} → stated.statement M
+unfolding code.routine
+daa-spec 𝓤 H 𝓜 𝓖 𝓡 =
+    thin-spec 𝓤 H 𝓜 𝓖 𝓡 (over daaOf) #f code.env g-def.name (code.unfolded 𝓤 H 𝓜 𝓡) g-def.routine code.calls-bcd·registers·daa-outcome (g-thm.met 𝓤 H 𝓜 𝓖 𝓡)

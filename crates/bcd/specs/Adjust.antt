@@ -1,0 +1,19 @@
+-- What the decimal adjusts share. Assumes nothing.
+use mathlib.Core.Bool.{Bool, _&&_, _||_}
+use Prim.Native.Nat.{ℕ, _/_, _%_}
+use lib.Dec.{leb, ltb}
+
+-- the halves of AX
+abbrev pub ahOf : ℕ → ℕ
+ahOf ax = ax / 256
+
+abbrev pub alOf : ℕ → ℕ
+alOf ax = ax % 256
+
+-- x is one of low to high
+abbrev pub between : ℕ → ℕ → ℕ → Bool
+between low high x = leb low x && leb x high
+
+-- adjust if AL's low digit is over 9 or A is set
+abbrev pub adjusts : ℕ → Bool → Bool
+adjusts al a = ltb 9 (al % 16) || a

@@ -1,0 +1,4 @@
+pub mod Adjust
+pub mod Ascii
+pub mod Decimal
+pub mod Over
