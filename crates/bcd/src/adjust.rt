@@ -1,4 +1,5 @@
 // What the adjusts share: the halves of AX, the test of the low digit, and the answer.
+// Tests are joined by `&` and `|`, which look at both sides: no branch, and one way through.
 ghost use mathlib.Core.Path.{_≡_};
 ghost use Rattle.bcd.specs.Adjust.{ahOf, alOf, between, adjusts};
 use flags::word::Flags;
