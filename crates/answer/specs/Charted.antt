@@ -1,0 +1,102 @@
+-- The answer to an admitted request, by the charts. R is the result, AX, quotient, 8-bit product or upper half of a 16-bit one; S is the
+-- remainder or that lower half, else 0. Assumes nothing.
+use Prim.Native.Nat.{ℕ, _/_, _%_}
+use Rattle.flags.specs.Word.{wordOf, setC, setCO, setCOA}
+use Rattle.flags.specs.declared.word.Flags.{Flags}
+use Rattle.alu.specs.Result.{ResultC, ResultCo, ResultCoa}
+use Rattle.alu.specs.Sum.{add, adc, sub, sbb, neg}
+use Rattle.alu.specs.Shift.{shl, shr, sar, rol, ror, rcl, rcr, shlAf}
+use Rattle.multiply.specs.Routines.{Multiplied}
+use Rattle.multiply.specs.Multiply.{multiply}
+use Rattle.divide.specs.Divide.{Divided, accepted, refused, divide}
+use Rattle.bcd.specs.Ascii.{aaaOf, aasOf, aadOf}
+use Rattle.bcd.specs.Decimal.{daaOf, dasOf}
+use Rattle.bcd.specs.declared.adjust.Adjusted.{Adjusted}
+use Rattle.request.specs.declared.operation.Width.{Width}
+use Rattle.request.specs.declared.operation.Width.the-variants.{Byte, Word}
+use Rattle.request.specs.declared.operation.Mode.{Mode}
+use Rattle.request.specs.declared.operation.Alu.{Alu}
+use Rattle.request.specs.declared.operation.Alu.the-variants.{Add, Adc, Sub, Sbb, Neg, Shl, Shr, Sar, Rol, Ror, Rcl, Rcr, ShlAf}
+use Rattle.request.specs.declared.operation.Decimal.{Decimal}
+use Rattle.request.specs.declared.operation.Decimal.the-variants.{Aaa, Aas, Aad, Daa, Das}
+use Rattle.request.specs.declared.operation.Operation.{Operation}
+use Rattle.request.specs.declared.operation.Operation.the-variants.{Alu as OfAlu, Multiply, Divide, Decimal as OfDecimal}
+use Rattle.request.specs.declared.judge.Request.{Request}
+use Rattle.answer.specs.declared.answer.Answer.{Answer}
+
+-- the status, the flags as a word, the steps, R and S
+abbrev pub answerOf : ℕ → Flags → ℕ → ℕ → ℕ → Answer
+answerOf status f steps r s = record { status = status; flags = wordOf f; steps = steps; r = r; s = s }
+
+-- status 0, no step and one result
+abbrev pub plainOf : Flags → ℕ → Answer
+plainOf f r = answerOf 0 f 0 r 0
+
+-- the flags that an operation names go over those handed in
+abbrev pub ofC : ResultC → Flags → Answer
+ofC m f = plainOf (setC (m .carry) f) (m .result)
+
+abbrev pub ofCo : ResultCo → Flags → Answer
+ofCo m f = plainOf (setCO (m .carry) (m .overflow) f) (m .result)
+
+abbrev pub ofCoa : ResultCoa → Flags → Answer
+ofCoa m f = plainOf (setCOA (m .carry) (m .overflow) (m .auxCarry) f) (m .result)
+
+abbrev pub aluOf : ℕ → Alu → ℕ → ℕ → Flags → Answer
+aluOf n Add x y f = ofCoa (add n x y) f
+aluOf n Adc x y f = ofCoa (adc n x y (f .carry)) f
+aluOf n Sub x y f = ofCoa (sub n x y) f
+aluOf n Sbb x y f = ofCoa (sbb n x y (f .carry)) f
+aluOf n Neg x y f = ofCoa (neg n x) f
+aluOf n Shl x y f = ofCo (shl n x y) f
+aluOf n Shr x y f = ofC (shr n x y) f
+aluOf n Sar x y f = ofC (sar n x y) f
+aluOf n Rol x y f = ofCo (rol n x y) f
+aluOf n Ror x y f = ofCo (ror n x y) f
+aluOf n Rcl x y f = ofCo (rcl n x y (f .carry)) f
+aluOf n Rcr x y f = ofCo (rcr n x y (f .carry)) f
+aluOf n ShlAf x y f = ofCoa (shlAf n x y) f
+
+abbrev pub ofProduct8 : Multiplied → Answer
+ofProduct8 m = answerOf 0 (m .flags) (m .steps) (m .product) 0
+
+abbrev pub ofProduct16 : Multiplied → Answer
+ofProduct16 m = answerOf 0 (m .flags) (m .steps) (m .product / 0x1_0000) (m .product % 0x1_0000)
+
+-- either refusal is status 6
+abbrev pub ofDivided : Divided → Answer
+ofDivided (accepted quotient remainder f steps) = answerOf 0 f steps quotient remainder
+ofDivided (refused refusal f steps) = answerOf 6 f steps 0 0
+
+abbrev pub ofAdjusted : Adjusted → Answer
+ofAdjusted a = answerOf 0 (a .flags) (a .steps) (a .ax) 0
+
+abbrev pub adjustOf : Decimal → ℕ → ℕ → Flags → Adjusted
+adjustOf Aaa ax byte f = aaaOf ax f
+adjustOf Aas ax byte f = aasOf ax f
+adjustOf Aad ax byte f = aadOf ax byte f
+adjustOf Daa ax byte f = daaOf ax f
+adjustOf Das ax byte f = dasOf ax f
+
+abbrev pub bits : Width → ℕ
+bits Byte = 8
+bits Word = 16
+
+abbrev pub multipliedBy : Width → Multiplied → Answer
+multipliedBy Byte m = ofProduct8 m
+multipliedBy Word m = ofProduct16 m
+
+abbrev pub multipliedOf : Mode → ℕ → ℕ → Flags → Answer
+multipliedOf m x y f = multipliedBy (m .width) (multiply (bits (m .width)) (m .signed) (m .rep) x y f)
+
+abbrev pub dividedOf : Mode → ℕ → ℕ → Flags → Answer
+dividedOf m x y f = ofDivided (divide (bits (m .width)) (m .signed) (m .rep) x y f)
+
+abbrev pub chartedBy : Operation → ℕ → ℕ → Flags → Answer
+chartedBy (OfAlu alu w) x y f = aluOf (bits w) alu x y f
+chartedBy (Multiply m) x y f = multipliedOf m x y f
+chartedBy (Divide m) x y f = dividedOf m x y f
+chartedBy (OfDecimal decimal) x y f = ofAdjusted (adjustOf decimal x y f)
+
+unfoldable pub charted : Request → Answer
+charted r = chartedBy (r .operation) (r .x) (r .y) (r .flags)

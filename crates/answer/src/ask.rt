@@ -1,0 +1,130 @@
+// Requests answered: a judged one, and a raw one, which no caller has checked.
+ghost use mathlib.Core.Path.{_≡_};
+ghost use Prim.Native.Nat.{_≤_};
+ghost use Rattle.flags.specs.Parity.{ParityTable};
+ghost use Rattle.request.specs.Limits.{largest, dividendMost, xMost, yMost};
+ghost use Rattle.answer.specs.Charted.{multipliedOf, dividedOf, charted};
+ghost use Rattle.answer.specs.Asked.{zeros, asked};
+use crate::alu_answer;
+use crate::answer;
+use crate::answer::Answer;
+use divide::div;
+use flags::word::Flags;
+use multiply::mul;
+use request::judge;
+use request::judge::Judged;
+use request::judge::Request;
+use request::operation::Mode;
+use request::operation::Operation;
+use request::operation::Width;
+
+fn multiplied(mode: Mode, x: u32, y: u16, flags: Flags, table: &[u8; 256]) -> Answer
+    requires { ⌜ ParityTable (now table) ⌝ }
+    requires { ⌜ (x ≤ largest (mode .width)) × (y ≤ largest (mode .width)) ⌝ }
+    ensures { λ a. ⌜ a ≡ multipliedOf mode x y flags ⌝ }
+{
+    let width = mode.width;
+    match width {
+        Width::Byte => {
+            let made = mul::mul8(
+                (x % 0x100) as u8,
+                (y % 0x100) as u8,
+                mode.signed,
+                mode.rep,
+                flags,
+                table,
+            );
+            answer::of_product8(made)
+        }
+        Width::Word => {
+            let made = mul::mul16(
+                (x % 0x1_0000) as u16,
+                y,
+                mode.signed,
+                mode.rep,
+                flags,
+                table,
+            );
+            answer::of_product16(made)
+        }
+    }
+}
+
+fn divided(mode: Mode, x: u32, y: u16, flags: Flags, table: &[u8; 256]) -> Answer
+    requires { ⌜ ParityTable (now table) ⌝ }
+    requires { ⌜ (x ≤ dividendMost (mode .width)) × (y ≤ largest (mode .width)) ⌝ }
+    ensures { λ a. ⌜ a ≡ dividedOf mode x y flags ⌝ }
+{
+    let width = mode.width;
+    match width {
+        Width::Byte => {
+            let made = div::div8(
+                (x % 0x1_0000) as u16,
+                (y % 0x100) as u8,
+                mode.signed,
+                mode.rep,
+                flags,
+                table,
+            );
+            answer::of_divided8(made)
+        }
+        Width::Word => {
+            let made = div::div16(x, y, mode.signed, mode.rep, flags, table);
+            answer::of_divided16(made)
+        }
+    }
+}
+
+// The answer to an admitted request.
+pub fn answer_request(request: Request, table: &[u8; 256]) -> Answer
+    requires { ⌜ ParityTable (now table) ⌝ }
+    requires { ⌜ (request .x ≤ xMost (request .operation)) × (request .y ≤ yMost (request .operation)) ⌝ }
+    ensures { λ a. ⌜ a ≡ charted request ⌝ }
+{
+    let operation = request.operation;
+    let x = request.x;
+    let y = request.y;
+    let flags = request.flags;
+    match operation {
+        Operation::Alu(alu, width) => match width {
+            Width::Byte => alu_answer::alu8(alu, (x % 0x100) as u8, (y % 0x100) as u8, flags),
+            Width::Word => alu_answer::alu16(alu, (x % 0x1_0000) as u16, y, flags),
+        },
+        Operation::Multiply(mode) => multiplied(mode, x, y, flags, table),
+        Operation::Divide(mode) => divided(mode, x, y, flags, table),
+        Operation::Decimal(decimal) => {
+            answer::adjust(
+                decimal,
+                (x % 0x1_0000) as u16,
+                (y % 0x100) as u8,
+                flags,
+                table,
+            )
+        }
+    }
+}
+
+fn refused(status: u8) -> Answer
+    ensures { λ a. ⌜ a ≡ zeros status ⌝ }
+{
+    Answer {
+        status,
+        flags: 0,
+        steps: 0,
+        r: 0,
+        s: 0,
+    }
+}
+
+// The table of statuses from 3 on.
+pub fn ask(op: u8, mode: u8, flags: u16, x: u32, y: u16, table: &[u8; 256]) -> Answer
+    requires { ⌜ ParityTable (now table) ⌝ }
+    ensures { λ a. ⌜ a ≡ asked op mode flags x y ⌝ }
+{
+    match judge::judge(op, mode, flags, x, y) {
+        Judged::Admitted(request) => answer_request(request, table),
+        Judged::Unlisted => refused(3),
+        Judged::WrongMode => refused(4),
+        Judged::TooLarge => refused(5),
+    }
+}

@@ -1,0 +1,101 @@
+-- What an op, a mode and the ranges tell, as the code tests them, is what the definitions say. Assumes nothing.
+use mathlib.Core.Path.{_≡_, refl, sym, ap, subst, _∙_}
+use mathlib.Core.Bool.{Bool, true, false, cond, _&&_}
+use mathlib.Core.List.{List, [], _∷_}
+use Prim.Native.Nat.{ℕ, _≤_, _<_}
+use native.Mathlib.Omega.{arith}
+use lib.Bits.{bitAnd}
+use lib.Dec.{leb, ltb}
+use borrow.Author.Tests.{ne-eqb, lt-ltb, le-ltb, leb-true}
+use Rattle.flags.specs.Word.{flagsOf, isFlags}
+use Rattle.flags.specs.declared.word.Flags.{Flags}
+use Rattle.flags.proofs.Masks.{mask-bit}
+use Rattle.request.specs.Operation.{lookup, listed, widthOf, checked, operationOf}
+use Rattle.request.specs.Limits.{xMost, yMost}
+use Rattle.request.specs.Judge.{within, requestOf, judgedBy, judged}
+use Rattle.request.specs.declared.operation.Width.the-variants.{Byte, Word}
+use Rattle.request.specs.declared.operation.Operation.{Operation}
+use Rattle.request.specs.declared.operation.Listed.{Listed}
+use Rattle.request.specs.declared.operation.Listed.the-variants.{Unlisted}
+use Rattle.request.specs.declared.operation.Named.{Named}
+use Rattle.request.specs.declared.operation.Named.the-variants.{Operation as Names, Unlisted as NotListed, WrongMode}
+use Rattle.request.specs.declared.judge.Request.{Request}
+use Rattle.request.specs.declared.judge.Judged.{Judged}
+use Rattle.request.specs.declared.judge.Judged.the-variants.{Admitted, TooLarge}
+
+-- ---- the op
+
+-- an op that is a row's is what the row says, as `listed` computes
+pub at-row : {op k : ℕ} → op ≡ k → listed k ≡ listed op
+at-row e = ap listed (sym e)
+
+-- an op that is no row's: N, and of each row that it is not the op's
+abbrev pub Missed : Type 0 → ℕ → List (ℕ × Listed) → Type 0
+Missed N op [] = N
+Missed N op (row ∷ rows) = Missed (N × (op ≡ row .0 → ⊥)) op rows
+
+first : {N : Type 0} (op : ℕ) (rows : List (ℕ × Listed)) → Missed N op rows → N
+first op [] m = m
+first op (row ∷ rows) m = first op rows m .0
+
+pub missed : (N : Type 0) (op : ℕ) (rows : List (ℕ × Listed)) → Missed N op rows → Unlisted ≡ lookup op rows
+missed N op [] m = refl
+missed N op (row ∷ rows) m = rw (ne-eqb op (row .0) (first op rows m .1)) (missed (N × (op ≡ row .0 → ⊥)) op rows m)
+
+-- ---- the mode
+
+pub word-width : (mode : ℕ) → (bitAnd mode 0x01 ≡ 0 → ⊥) → Word ≡ widthOf mode
+word-width mode h = rw (← mask-bit 0 mode, ne-eqb (bitAnd mode 0x01) 0 h)
+
+pub byte-width : (mode : ℕ) → bitAnd mode 0x01 ≡ 0 → Byte ≡ widthOf mode
+byte-width mode h = rw (← mask-bit 0 mode, h)
+
+-- what the match on the op told, and what the arm made of the mode
+pub named : (op mode : ℕ) {l k : Listed} → l ≡ listed op → l ≡ k → {r : Named} → r ≡ checked k mode → r ≡ operationOf op mode
+unfolding operationOf
+named op mode e told h = h ∙ ap (λ (x : Listed). checked x mode) (sym told ∙ e)
+
+pub over : (most mode : ℕ) (n : Named) → most < mode → WrongMode ≡ cond (ltb most mode) WrongMode n
+over most mode n h = rw (lt-ltb most mode h)
+
+pub up-to : (most mode : ℕ) {r n : Named} → mode ≤ most → r ≡ n → r ≡ cond (ltb most mode) WrongMode n
+up-to most mode h e = rw (le-ltb most mode h) e
+
+-- ---- the ranges
+
+-- what the match on the name told, and what the arm made of the rest
+pub judged-as : (op mode flags x y : ℕ) {l k : Named} → l ≡ operationOf op mode → l ≡ k → {r : Judged} → r ≡ judgedBy k flags x y → r ≡ judged op mode flags x y
+unfolding judged
+judged-as op mode flags x y e told h = h ∙ ap (λ (n : Named). judgedBy n flags x y) (sym told ∙ e)
+
+module _ (operation : Operation) (flags x y : ℕ) {ok : Bool} (e : ok ≡ within operation flags x y) where
+  pub admitted : ok ≡ true → {f : Flags} → f ≡ flagsOf flags
+      → Admitted (record { operation = operation; flags = f; x = x; y = y })
+      ≡ cond (within operation flags x y) (Admitted (requestOf operation flags x y)) TooLarge
+  admitted t {f} ef = rw (← e, t) (λ i. Admitted (record { operation = operation; flags = ef i; x = x; y = y }))
+
+  pub too-large : ok ≡ false → TooLarge ≡ cond (within operation flags x y) (Admitted (requestOf operation flags x y)) TooLarge
+  too-large t = rw (← e, t)
+
+-- ---- what an admitted request is held to
+
+abbrev pub InRange : Operation → ℕ → ℕ → Type 0
+InRange operation x y = (x ≤ xMost operation) × (y ≤ yMost operation)
+
+pub admitted-in-range : (op mode flags x y : ℕ) {j : Judged} {r : Request} → j ≡ judged op mode flags x y → j ≡ Admitted r → InRange (r .operation) (r .x) (r .y)
+unfolding judged
+admitted-in-range op mode flags x y {r = r} e told = by (operationOf op mode) (sym told ∙ e)
+  where
+    tested : (o : Operation) (a b c : Bool) → leb x (xMost o) ≡ a → leb y (yMost o) ≡ b → Admitted r ≡ cond (a && b && c) (Admitted (requestOf o flags x y)) TooLarge
+        → InRange (r .operation) (r .x) (r .y)
+    tested o true true true ex ey e =
+        let same : r ≡ requestOf o flags x y = cc in
+        subst (λ (q : Request). InRange (q .operation) (q .x) (q .y)) (sym same) (leb-true x (xMost o) ex, leb-true y (yMost o) ey)
+    tested o true true false ex ey e = let z : _≡_ {A = ℕ} 0 1 = cc in absurd (omega arith)
+    tested o true false c ex ey e = let z : _≡_ {A = ℕ} 0 1 = cc in absurd (omega arith)
+    tested o false b c ex ey e = let z : _≡_ {A = ℕ} 0 1 = cc in absurd (omega arith)
+
+    by : (n : Named) → Admitted r ≡ judgedBy n flags x y → InRange (r .operation) (r .x) (r .y)
+    by (Names o) e = tested o (leb x (xMost o)) (leb y (yMost o)) (isFlags flags) refl refl e
+    by NotListed e = let z : _≡_ {A = ℕ} 0 1 = cc in absurd (omega arith)
+    by WrongMode e = let z : _≡_ {A = ℕ} 0 1 = cc in absurd (omega arith)

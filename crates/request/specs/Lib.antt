@@ -1,0 +1,3 @@
+pub mod Operation
+pub mod Limits
+pub mod Judge

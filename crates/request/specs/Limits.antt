@@ -1,0 +1,53 @@
+-- X is at most FF (8-bit), FFFF (16-bit, 8-bit dividend, AX) or any (16-bit dividend). Y is at most FF for 8-bit work, every count and AAD;
+-- at most FFFF for other 16-bit work; 0 for NEG, AAA, AAS, DAA, DAS. Assumes nothing.
+use Prim.Native.Nat.{ℕ}
+use Rattle.request.specs.declared.operation.Width.{Width}
+use Rattle.request.specs.declared.operation.Width.the-variants.{Byte, Word}
+use Rattle.request.specs.declared.operation.Alu.{Alu}
+use Rattle.request.specs.declared.operation.Alu.the-variants.{Add, Adc, Sub, Sbb, Neg, Shl, Shr, Sar, Rol, Ror, Rcl, Rcr, ShlAf}
+use Rattle.request.specs.declared.operation.Decimal.{Decimal}
+use Rattle.request.specs.declared.operation.Decimal.the-variants.{Aaa, Aas, Aad, Daa, Das}
+use Rattle.request.specs.declared.operation.Operation.{Operation}
+use Rattle.request.specs.declared.operation.Operation.the-variants.{Alu as OfAlu, Multiply, Divide, Decimal as OfDecimal}
+
+abbrev pub largest : Width → ℕ
+largest Byte = 0xFF
+largest Word = 0xFFFF
+
+abbrev pub rightMost : Alu → Width → ℕ
+rightMost Add w = largest w
+rightMost Adc w = largest w
+rightMost Sub w = largest w
+rightMost Sbb w = largest w
+rightMost Neg w = 0
+rightMost Shl w = 0xFF
+rightMost Shr w = 0xFF
+rightMost Sar w = 0xFF
+rightMost Rol w = 0xFF
+rightMost Ror w = 0xFF
+rightMost Rcl w = 0xFF
+rightMost Rcr w = 0xFF
+rightMost ShlAf w = 0xFF
+
+abbrev pub adjustMost : Decimal → ℕ
+adjustMost Aaa = 0
+adjustMost Aas = 0
+adjustMost Aad = 0xFF
+adjustMost Daa = 0
+adjustMost Das = 0
+
+abbrev pub dividendMost : Width → ℕ
+dividendMost Byte = 0xFFFF
+dividendMost Word = 0xFFFF_FFFF
+
+abbrev pub xMost : Operation → ℕ
+xMost (OfAlu alu w) = largest w
+xMost (Multiply m) = largest (m .width)
+xMost (Divide m) = dividendMost (m .width)
+xMost (OfDecimal decimal) = 0xFFFF
+
+abbrev pub yMost : Operation → ℕ
+yMost (OfAlu alu w) = rightMost alu w
+yMost (Multiply m) = largest (m .width)
+yMost (Divide m) = largest (m .width)
+yMost (OfDecimal decimal) = adjustMost decimal
