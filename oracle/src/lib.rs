@@ -10,6 +10,7 @@ pub mod answer;
 pub mod draw;
 pub mod edges;
 mod hex;
+pub mod malformed;
 pub mod request;
 pub mod session;
 pub mod shim;

@@ -5,6 +5,7 @@ mod options;
 use options::Command;
 use oracle::draw::Draw;
 use oracle::edges;
+use oracle::malformed;
 use oracle::request::Operation;
 use oracle::session::{self, Stop};
 use std::io::{self, BufReader, BufWriter, ErrorKind, Write};
@@ -42,6 +43,11 @@ fn obey(command: Command) -> Result<(), Stop> {
             let input = BufReader::with_capacity(BUFFER, io::stdin().lock());
             return session::run(input, output, refused).map(|_| ());
         }
+        Command::Record => {
+            let input = BufReader::with_capacity(BUFFER, io::stdin().lock());
+            return session::record(input, output).map(|_| ());
+        }
+        Command::Malformed => write_malformed(&mut output),
         Command::Draw {
             seed,
             count,
@@ -71,4 +77,12 @@ fn write_edges(output: &mut impl Write, operations: &[Operation]) -> io::Result<
     operations
         .iter()
         .try_for_each(|&operation| edges::each(operation, &mut take))
+}
+
+fn write_malformed(output: &mut impl Write) -> io::Result<()> {
+    malformed::lines().iter().try_for_each(|line| {
+        output
+            .write_all(line)
+            .and_then(|()| output.write_all(b"\n"))
+    })
 }

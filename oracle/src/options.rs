@@ -10,6 +10,8 @@ use:
   oracle answer [--refused-flags rust|handed-in] < requests > answers
   oracle make --seed N --count N [--op XX]... > requests
   oracle make --edges [--op XX]... > requests
+  oracle make --malformed > requests
+  oracle record < requests > records
   oracle --help
 
 answer
@@ -20,12 +22,18 @@ answer
   --refused-flags handed-in  a refused divide answers with the flags handed in
 
 make
-  Writes request lines, all of them admitted.
+  Writes request lines. All of them are admitted, but for --malformed.
   --seed N   the seed, a decimal number; the same seed gives the same lines
   --count N  how many lines
   --op XX    only this op, two hexadecimal digits; may be given again
   --edges    every combination of edge operands instead; the seed and the
              count are then not needed and not used
+  --malformed  lines that are not admitted, of every kind
+
+record
+  Reads lines, admitted or not, and writes for each what a port has to answer:
+  18 digits, a space, and the line. A refused divide has the flags handed in; a
+  line that is not admitted has its status and zeros.
 
 exit: 0 done, 1 a line, a read or a write failed, 2 the command is not understood
 ";
@@ -42,6 +50,8 @@ pub enum Command {
     Edges {
         operations: Vec<Operation>,
     },
+    Malformed,
+    Record,
 }
 
 /// The command, or what is wrong with it.
@@ -51,6 +61,10 @@ pub fn read(mut arguments: impl Iterator<Item = String>) -> Result<Command, Stri
         "--help" | "-h" | "help" => Ok(Command::Help),
         "answer" => read_answer(arguments),
         "make" => read_make(arguments),
+        "record" => match arguments.next() {
+            None => Ok(Command::Record),
+            Some(option) => Err(format!("unknown option `{option}` of record")),
+        },
         _ => Err(format!("unknown command `{name}`")),
     }
 }
@@ -84,6 +98,7 @@ fn read_make(mut arguments: impl Iterator<Item = String>) -> Result<Command, Str
             "--seed" => seed = Some(number(&option, &mut arguments)?),
             "--count" => count = Some(number(&option, &mut arguments)?),
             "--edges" => edges = true,
+            "--malformed" => return Ok(Command::Malformed),
             "--op" => ops.push(op(&value(&option, &mut arguments)?)?),
             _ => return Err(format!("unknown option `{option}` of make")),
         }

@@ -1,7 +1,7 @@
 //! A run over many lines, kept apart from the program so that other programs
 //! and tests can have it without starting one.
 
-use crate::answer::answer;
+use crate::answer::{answer, ANSWER_DIGITS};
 use crate::request::{Fault, Request, REQUEST_DIGITS};
 use std::fmt;
 use std::io::{self, BufRead, Read, Write};
@@ -79,5 +79,35 @@ fn answer_lines(
             given = given.with_refused_flags_handed_in(&request);
         }
         output.write_all(&given.to_line()).map_err(Stop::Write)?;
+    }
+}
+
+/// Records every line, admitted or not, for a replay: the answer that the
+/// project's scope asks for, a space, and the line. A line that is not admitted
+/// is answered with its status and zeros. Returns the number of lines.
+pub fn record(mut input: impl BufRead, mut output: impl Write) -> Result<u64, Stop> {
+    let mut buffer = Vec::new();
+    let mut lines = 0;
+    loop {
+        buffer.clear();
+        input.read_until(b'\n', &mut buffer).map_err(Stop::Read)?;
+        if buffer.is_empty() {
+            output.flush().map_err(Stop::Write)?;
+            return Ok(lines);
+        }
+        lines += 1;
+        let line = buffer.strip_suffix(b"\n").unwrap_or(&buffer);
+        let record = [&answer_digits(line)[..], b" ", line, b"\n"].concat();
+        output.write_all(&record).map_err(Stop::Write)?;
+    }
+}
+
+fn answer_digits(line: &[u8]) -> Vec<u8> {
+    match Request::parse(line) {
+        Ok(request) => {
+            let given = answer(&request).with_refused_flags_handed_in(&request);
+            given.to_line()[..ANSWER_DIGITS].to_vec()
+        }
+        Err(fault) => format!("{:02X}{:016X}", fault.status(), 0).into_bytes(),
     }
 }

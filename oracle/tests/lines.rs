@@ -2,8 +2,8 @@
 
 use oracle::draw::Draw;
 use oracle::request::Operation;
-use oracle::session::{run, RefusedFlags, Stop};
-use oracle::{answer, edges, Fault, Request};
+use oracle::session::{record, run, RefusedFlags, Stop};
+use oracle::{answer, edges, malformed, Fault, Request};
 use std::io::Write;
 use std::process::{Command, Output, Stdio};
 
@@ -137,6 +137,33 @@ fn every_edge_is_admitted_and_answered() {
     }
 }
 
+/// Every kind stands in the list, and no line of it is admitted.
+#[test]
+fn malformed_lines_have_every_status() {
+    let mut seen = [0; 6];
+    for line in malformed::lines() {
+        let fault = Request::parse(&line).expect_err("admitted");
+        assert!(!line.contains(&b'\n'));
+        seen[usize::from(fault.status())] += 1;
+    }
+    assert!(
+        seen[0] == 0 && seen[1..].iter().all(|&lines| lines > 30),
+        "{seen:?}"
+    );
+}
+
+#[test]
+fn records_hold_the_answer_and_the_line() {
+    let mut records = Vec::new();
+    let lines = format!("{SESSION}\n0D");
+    assert_eq!(record(lines.as_bytes(), &mut records).unwrap(), 4);
+    let expected = "000001005100030001 11000000000000070002\n\
+                    060000005F00000000 110200000000FF800001\n\
+                    010000000000000000 \n\
+                    010000000000000000 0D\n";
+    assert_eq!(String::from_utf8(records).unwrap(), expected);
+}
+
 fn program(arguments: &[&str], input: &str) -> Output {
     let mut child = Command::new(env!("CARGO_BIN_EXE_oracle"))
         .args(arguments)
@@ -172,6 +199,7 @@ fn program_reports_what_is_wrong() {
         &["make", "--seed", "x", "--count", "1"],
         &["make", "--edges", "--op", "12"],
         &["make", "--edges", "--op", "+1"],
+        &["record", "--fast"],
     ] {
         let output = program(arguments, "");
         assert_eq!(output.status.code(), Some(2), "{arguments:?}");
