@@ -104,7 +104,8 @@ pub fn answer_request(request: Request, table: &[u8; 256]) -> Answer
     }
 }
 
-fn refused(status: u8) -> Answer
+// A refusal before any operation ran: no flags, steps or results.
+pub fn refused(status: u8) -> Answer
     ensures { λ a. ⌜ a ≡ zeros status ⌝ }
 {
     Answer {

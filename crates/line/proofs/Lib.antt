@@ -1,0 +1,3 @@
+pub mod Turns
+pub mod LineCount
+pub mod RunLaws

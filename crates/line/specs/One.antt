@@ -1,0 +1,36 @@
+-- The answer to one line: the whole table of statuses, in its order 7, 1, 2, 3, 4, 5, 6. Assumes nothing.
+use mathlib.Core.Bool.{cond}
+use mathlib.Core.List.{List, _++_}
+use Prim.Native.Nat.{ℕ}
+use lib.Dec.{ltb}
+use lib.ListN.{length, drop}
+use Rattle.text.specs.Fields.{readOf}
+use Rattle.text.specs.Written.{written}
+use Rattle.text.specs.declared.fields.Fields.{Fields}
+use Rattle.text.specs.declared.fields.Read.{Read}
+use Rattle.text.specs.declared.fields.Read.the-variants.{Fields as OfFields, Length, Digit}
+use Rattle.answer.specs.Asked.{zeros, asked}
+use Rattle.answer.specs.declared.answer.Answer.{Answer}
+
+abbrev pub answerBy : Read → Answer
+answerBy (OfFields f) = asked (f .op) (f .mode) (f .flags) (f .x) (f .y)
+answerBy Length = zeros 1
+answerBy Digit = zeros 2
+
+unfoldable pub answerOf : List ℕ → Answer
+answerOf line = answerBy (readOf line)
+
+-- the 19 bytes of a line's answer
+abbrev pub textBy : Answer → List ℕ
+textBy a = written (a .status) (a .flags) (a .steps) (a .r) (a .s)
+
+unfoldable pub textOf : List ℕ → List ℕ
+textOf line = textBy (answerOf line)
+
+-- the status that is returned: 7 where the room is under 19 bytes
+abbrev pub statusIn : ℕ → List ℕ → ℕ
+statusIn room line = cond (ltb room 19) 7 (answerOf line .status)
+
+-- the room afterwards: the answer, and what stood after its 19 bytes; as it was where it is too small
+abbrev pub answered : List ℕ → List ℕ → List ℕ
+answered line out = cond (ltb (length out) 19) out (textOf line ++ drop 19 out)

@@ -1,0 +1,3 @@
+// Request lines answered: one line, and a run over many.
+pub mod one;
+pub mod run;

@@ -1,0 +1,3 @@
+pub mod Held
+pub mod LineLaws
+pub mod ReadBack

@@ -1,0 +1,87 @@
+-- What is written is read as the same number: an answer line is 19 bytes, its digits read back give what was written, and small letters
+-- read as capitals do. Assumes nothing.
+use mathlib.Core.Path.{_≡_, refl}
+use mathlib.Core.Bool.{Bool, true, false, cond}
+use Prim.Native.Nat.{ℕ, _+_, _*_, _/_, _%_, _<_, _≤_}
+use native.Mathlib.Omega.{arith}
+use lib.Dec.{ltb}
+use lib.ListN.{length, getD}
+use borrow.Author.Tests.{ltb-true, ltb-false, lt-ltb, le-leb, lt-leb}
+use Rattle.text.specs.Digits.{digitOf, capitalOf}
+use Rattle.text.specs.Fields.{fourOf, fourAt}
+use Rattle.text.specs.Written.{four, written}
+
+pub written-length : (status flags steps r s : ℕ) → length (written status flags steps r s) ≡ 19
+unfolding written
+written-length status flags steps r s = refl
+
+-- ---- one digit
+
+-- 0 to 9, A to F, a to f
+figure : (k : ℕ) → k < 10 → digitOf (0x30 + k) ≡ k
+unfolding digitOf
+figure k h = simp (le-leb 0x30 (0x30 + k) (omega arith), le-leb (0x30 + k) 0x39 (omega arith)) (omega arith)
+
+capital-letter : (k : ℕ) → 10 ≤ k → k < 16 → digitOf (0x37 + k) ≡ k
+unfolding digitOf
+capital-letter k l h =
+    simp (lt-leb (0x37 + k) 0x39 (omega arith), le-leb 0x30 (0x37 + k) (omega arith), le-leb 0x41 (0x37 + k) (omega arith), le-leb (0x37 + k) 0x46 (omega arith))
+    (omega arith)
+
+pub small-letter : (c : ℕ) → 0x41 ≤ c → c ≤ 0x46 → digitOf (c + 0x20) ≡ digitOf c
+unfolding digitOf
+small-letter c l h =
+    simp (
+      le-leb 0x30 c (omega arith),
+      lt-leb c 0x39 (omega arith),
+      le-leb 0x41 c l,
+      le-leb c 0x46 h,
+      le-leb 0x30 (c + 0x20) (omega arith),
+      lt-leb (c + 0x20) 0x39 (omega arith),
+      le-leb 0x41 (c + 0x20) (omega arith),
+      lt-leb (c + 0x20) 0x46 (omega arith),
+      le-leb 0x61 (c + 0x20) (omega arith),
+      le-leb (c + 0x20) 0x66 (omega arith),
+    )
+    (omega arith)
+
+pub digit-read : (k : ℕ) → k < 16 → digitOf (capitalOf k) ≡ k
+unfolding capitalOf
+digit-read k h = by (ltb k 10) refl
+  where
+    by : (x : Bool) → ltb k 10 ≡ x → digitOf (cond x (0x30 + k) (0x37 + k)) ≡ k
+    by true e = figure k (ltb-true _ _ e)
+    by false e = capital-letter k (ltb-false _ _ e) h
+
+-- ---- four digits, and a line of them
+
+pub four-read : (k : ℕ) → k < 0x1_0000 → fourAt (four k) 0 ≡ k
+unfolding fourAt fourOf
+four-read k h =
+    let a : k / 0x1000 < 16 = omega arith in
+    let b : k / 0x100 % 16 < 16 = omega arith in
+    let c : k / 0x10 % 16 < 16 = omega arith in
+    let d : k % 16 < 16 = omega arith in
+    simp (digit-read _ a, digit-read _ b, digit-read _ c, digit-read _ d, lt-ltb _ _ a, lt-ltb _ _ b, lt-ltb _ _ c, lt-ltb _ _ d) (omega arith)
+
+module _ (status flags steps r s : ℕ) where
+  pub status-read : status < 0x100
+      → digitOf (getD (written status flags steps r s) 0 0) * 16 + digitOf (getD (written status flags steps r s) 1 0) ≡ status
+  unfolding written
+  status-read h = simp (digit-read (status / 16) (omega arith), digit-read (status % 16) (omega arith)) (omega arith)
+
+  pub flags-read : flags < 0x1_0000 → fourAt (written status flags steps r s) 2 ≡ flags
+  unfolding written fourAt
+  flags-read h = four-read flags h
+
+  pub steps-read : steps < 0x1_0000 → fourAt (written status flags steps r s) 6 ≡ steps
+  unfolding written fourAt
+  steps-read h = four-read steps h
+
+  pub r-read : r < 0x1_0000 → fourAt (written status flags steps r s) 10 ≡ r
+  unfolding written fourAt
+  r-read h = four-read r h
+
+  pub s-read : s < 0x1_0000 → fourAt (written status flags steps r s) 14 ≡ s
+  unfolding written fourAt
+  s-read h = four-read s h

@@ -1,0 +1,4 @@
+pub mod Digits
+pub mod Fields
+pub mod Written
+pub mod Lines
