@@ -23,7 +23,7 @@ use Rattle.divide.specs.Cord.{CordAnswer, lastCompare, cordSteps, cord}
 use Rattle.divide.specs.Idiv as Idiv
 use Rattle.divide.specs.Idiv.{preIdiv, withSign, postIdiv}
 use Rattle.divide.specs.Flags.{compareFlags}
-use Rattle.divide.specs.Divide.{Divided, accepted, refused, accepts, quotientOf, remainderOf, big, small, preSteps, divide}
+use Rattle.divide.specs.Divide.{Divided, accepted, refused, accepts, quotientOf, remainderOf, big, small, preSteps, divide, finished}
 use Rattle.divide.specs.declared.div.Refusal.the-variants.{FirstCompare, SignRange}
 
 -- a quotient is below m exactly where the dividend's part above m is below the divisor
@@ -197,7 +197,7 @@ module _ (n d b : ℕ) (rep : Bool) (hn : 0 < n) (hd : d < 2 ^ (n + n)) (hb : b 
       ruled = rule (omega (arith, w .0)) ∙ sym (w .3)
 
       -- refused for sign range
-      pub range-refused : (negate : Bool) {u : ℕ} → Idiv.refused u ≡ postIdiv n r (d / 2 ^ n) q c negate (t + 3) → refused SignRange f u ≡ divide n true rep d b f
+      range-refused : (negate : Bool) {u : ℕ} → Idiv.refused u ≡ postIdiv n r (d / 2 ^ n) q c negate (t + 3) → refused SignRange f u ≡ divide n true rep d b f
       unfolding divide postIdiv
       range-refused negate {u} = by c ruled
         where
@@ -210,7 +210,7 @@ module _ (n d b : ℕ) (rep : Bool) (hn : 0 < n) (hd : d < 2 ^ (n + n)) (hb : b 
               rw (x, lt-leb (small n true b) (big n true d / 2 ^ n) (w .0)) (ap (refused SignRange f) (steps ∙ omega (arith, w .5)))
 
       -- accepted
-      pub signed-accepted : {negate : Bool} → negate ≡ xor rep (xor (topSet (n + n) d) (topSet n b)) → {q′ r′ u : ℕ}
+      signed-accepted : {negate : Bool} → negate ≡ xor rep (xor (topSet (n + n) d) (topSet n b)) → {q′ r′ u : ℕ}
           → Idiv.accepted q′ r′ u ≡ postIdiv n r (d / 2 ^ n) q c negate (t + 3)
           → {k : ℕ} {g h : Flags} → k ≡ small n true b → g ≡ compareFlags n l k c f → h ≡ setCO false false g
           → accepted q′ r′ h u ≡ divide n true rep d b f
@@ -249,6 +249,13 @@ module _ (n d b : ℕ) (rep : Bool) (hn : 0 < n) (hd : d < 2 ^ (n + n)) (hb : b 
               eh ∙ ap (setCO false false) (eg ∙ λ i. compareFlags n (w .4 i) (ek i) (y i) f) in
               let steps : u ≡ 19 + preSteps n d b + cordSteps n (small n true b) (big n true d) = eu ∙ omega (arith, w .5) in
               rw x (λ i. accepted ((eq ∙ quotient s) i) ((er ∙ remainder) i) (flags i) (steps i))
+
+      -- either way
+      pub signed-finished : {negate : Bool} → negate ≡ xor rep (xor (topSet (n + n) d) (topSet n b)) → (p : Idiv.PostAnswer)
+          → p ≡ postIdiv n r (d / 2 ^ n) q c negate (t + 3) → {k : ℕ} {g : Flags} → k ≡ small n true b → g ≡ compareFlags n l k c f
+          → finished p g f ≡ divide n true rep d b f
+      signed-finished en (Idiv.accepted q′ r′ u) ep ek eg = signed-accepted en ep ek eg refl
+      signed-finished {negate} en (Idiv.refused u) ep ek eg = range-refused negate ep
 
 -- ---- signed or not; REP changes nothing of an unsigned divide
 

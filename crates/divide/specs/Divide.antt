@@ -10,6 +10,7 @@ use Rattle.flags.specs.Word.{setCO}
 use Rattle.flags.specs.declared.word.Flags.{Flags}
 use Rattle.divide.specs.Cord.{lastCompare, cordSteps}
 use Rattle.divide.specs.Flags.{compareFlags}
+use Rattle.divide.specs.Idiv as Idiv
 use Rattle.divide.specs.declared.div.Refusal.{Refusal}
 use Rattle.divide.specs.declared.div.Refusal.the-variants.{FirstCompare, SignRange}
 
@@ -80,3 +81,8 @@ divide n s rep d b f =
     cond (accepts n s d b)
     (accepted (wrapped n (returned s rep (quotientOf n s d b))) (wrapped n (remainderOf n s d b)) (acceptedFlags n s d b f) (acceptedSteps n s d b))
     (refused (refusalOf n s d b) (refusedFlags (refusalOf n s d b) f) (refusedSteps n s (refusalOf n s d b) d b))
+
+-- what POSTIDIV's answer makes of a signed divide whose last compare left the flags g
+abbrev pub finished : Idiv.PostAnswer → Flags → Flags → Divided
+finished (Idiv.accepted q r t) g f = accepted q r (setCO false false g) t
+finished (Idiv.refused t) g f = refused SignRange (refusedFlags SignRange f) t

@@ -2,8 +2,8 @@
 ghost use mathlib.Core.Path.{_≡_};
 ghost use Rattle.flags.specs.Parity.{ParityTable};
 ghost use Rattle.divide.specs.Flags.{compareFlags};
-ghost use Rattle.divide.specs.Divide.{divide};
-ghost use Rattle.divide.specs.Views.{divided8, divided16};
+ghost use Rattle.divide.specs.Divide.{divide, finished};
+ghost use Rattle.divide.specs.Views.{post8Answer, post16Answer, divided8, divided16};
 ghost use mathlib.Core.Bool.{true, false};
 use crate::cord;
 use crate::cord::CordAnswer8;
@@ -75,6 +75,29 @@ fn unsigned_div8(dividend: u16, divisor: u8, flags: Flags, table: &[u8; 256]) ->
     }
 }
 
+// What POSTIDIV's answer makes of the divide. C and O are clear where it is accepted.
+fn finish8(post: PostIdiv8, compare: Flags, flags: Flags) -> Divided8
+    ensures { λ r. ⌜ divided8 r ≡ finished (post8Answer post) compare flags ⌝ }
+{
+    match post {
+        PostIdiv8::Accepted {
+            quotient,
+            remainder,
+            steps,
+        } => Divided8::Accepted {
+            quotient,
+            remainder,
+            flags: compare.with_co(false, false),
+            steps,
+        },
+        PostIdiv8::Refused { steps } => Divided8::Refused {
+            refusal: Refusal::SignRange,
+            flags,
+            steps,
+        },
+    }
+}
+
 fn signed_div8(
     dividend: u16,
     divisor: u8,
@@ -102,26 +125,9 @@ fn signed_div8(
             compared,
             steps,
         } => {
-            match idiv::post_idiv8(remainder, upper, quotient, carry, pre.neg_flag, steps + 3) {
-                PostIdiv8::Accepted {
-                    quotient,
-                    remainder,
-                    steps,
-                } => {
-                    let compare = compare_flags8(flags, compared, pre.tmpb, carry, table);
-                    Divided8::Accepted {
-                        quotient,
-                        remainder,
-                        flags: compare.with_co(false, false),
-                        steps,
-                    }
-                }
-                PostIdiv8::Refused { steps } => Divided8::Refused {
-                    refusal: Refusal::SignRange,
-                    flags,
-                    steps,
-                },
-            }
+            let post = idiv::post_idiv8(remainder, upper, quotient, carry, pre.neg_flag, steps + 3);
+            let compare = compare_flags8(flags, compared, pre.tmpb, carry, table);
+            finish8(post, compare, flags)
         }
         CordAnswer8::Refused { steps } => Divided8::Refused {
             refusal: Refusal::FirstCompare,
@@ -201,6 +207,29 @@ fn unsigned_div16(dividend: u32, divisor: u16, flags: Flags, table: &[u8; 256]) 
     }
 }
 
+// What POSTIDIV's answer makes of the divide. C and O are clear where it is accepted.
+fn finish16(post: PostIdiv16, compare: Flags, flags: Flags) -> Divided16
+    ensures { λ r. ⌜ divided16 r ≡ finished (post16Answer post) compare flags ⌝ }
+{
+    match post {
+        PostIdiv16::Accepted {
+            quotient,
+            remainder,
+            steps,
+        } => Divided16::Accepted {
+            quotient,
+            remainder,
+            flags: compare.with_co(false, false),
+            steps,
+        },
+        PostIdiv16::Refused { steps } => Divided16::Refused {
+            refusal: Refusal::SignRange,
+            flags,
+            steps,
+        },
+    }
+}
+
 fn signed_div16(
     dividend: u32,
     divisor: u16,
@@ -228,26 +257,16 @@ fn signed_div16(
             compared,
             steps,
         } => {
-            match idiv::post_idiv16(remainder, upper, quotient, carry, pre.neg_flag, steps + 3) {
-                PostIdiv16::Accepted {
-                    quotient,
-                    remainder,
-                    steps,
-                } => {
-                    let compare = compare_flags16(flags, compared, pre.tmpb, carry, table);
-                    Divided16::Accepted {
-                        quotient,
-                        remainder,
-                        flags: compare.with_co(false, false),
-                        steps,
-                    }
-                }
-                PostIdiv16::Refused { steps } => Divided16::Refused {
-                    refusal: Refusal::SignRange,
-                    flags,
-                    steps,
-                },
-            }
+            let post = idiv::post_idiv16(
+                remainder,
+                upper,
+                quotient,
+                carry,
+                pre.neg_flag,
+                steps + 3,
+            );
+            let compare = compare_flags16(flags, compared, pre.tmpb, carry, table);
+            finish16(post, compare, flags)
         }
         CordAnswer16::Refused { steps } => Divided16::Refused {
             refusal: Refusal::FirstCompare,

@@ -7,7 +7,7 @@ use borrow.Author.Needs.{needs}
 use Rattle.divide.specs.Cord.{CordAnswer, accepted, cord}
 use Rattle.divide.specs.Divide.{big, small, preSteps}
 use Rattle.divide.specs.Views.{cord16Answer, post16Answer}
-use Rattle.divide.proofs.DivLaws.{few-steps, pre-divisor, pre-flag, pre-few, pre-most, cord-of-pre, signed-refused, range-refused, signed-accepted}
+use Rattle.divide.proofs.DivLaws.{few-steps, pre-divisor, pre-flag, pre-few, pre-most, cord-of-pre, signed-refused, signed-finished}
 use Rattle.divide.proofs.div.signed_div16.Statement.{statement}
 use Rattle.divide.proofs.div.signed_div16.Tie as tie
 
@@ -40,30 +40,23 @@ few-after c =
 
 returns : tie.Need-returns
 returns c =
-    let told = c .before .before .before in
-    let at = told .before .before .before .before in
+    let post = c .before .before in
+    let at = post .before .before in
     let pre = at .before .before .before .before in
     let a = pre .before .args in
-    signed-accepted 16 (a .dividend) (a .divisor) (a .negate) (omega arith) (omega arith) (omega arith) (a .flags) (accepted-at at)
+    c .finish16 .ensures
+    ∙ signed-finished 16 (a .dividend) (a .divisor) (a .negate) (omega arith) (omega arith) (omega arith) (a .flags) (accepted-at at)
     (pre-flag 16 (a .dividend) (a .divisor) (a .negate) (omega arith) (omega arith) (omega arith) (pre .pre-idiv16 .ensures))
-    (ap post16Answer (sym (told .quotient2 .given .1)) ∙ told .before .before .post-idiv16 .ensures)
+    (post16Answer (post .post-idiv16 .result))
+    (post .post-idiv16 .ensures)
     (pre-divisor 16 (a .dividend) (a .divisor) (a .negate) (omega arith) (omega arith) (omega arith) (pre .pre-idiv16 .ensures))
     (c .before .compare-flags16 .ensures)
-    (c .with-co .ensures)
 
 returns-2 : tie.Need-returns-2
 returns-2 c =
-    let post = c .before .before .before in
-    let at = post .before .before in
-    let a = at .before .before .before .before .before .args in
-    range-refused 16 (a .dividend) (a .divisor) (a .negate) (omega arith) (omega arith) (omega arith) (a .flags) (accepted-at at) _
-    (ap post16Answer (sym (c .before .steps .given .1)) ∙ post .post-idiv16 .ensures)
-
-returns-3 : tie.Need-returns-3
-returns-3 c =
     let a = c .before .before .before .before .before .before .args in
     signed-refused 16 (a .dividend) (a .divisor) (a .negate) (omega arith) (omega arith) (omega arith) (a .flags)
-    (ap cord16Answer (sym (c .before .steps2 .given .1)) ∙ cord-at (c .before .before .before))
+    (ap cord16Answer (sym (c .before .steps .given .1)) ∙ cord-at (c .before .before .before))
 
 pub signed-div16-spec : {M : Type 1} → statement M
 signed-div16-spec =
@@ -72,4 +65,4 @@ signed-div16-spec =
     (λ c. search needs)
     (λ c. omega (arith, few-after (c .before)))
     (λ c κs. omega (arith, few-after (c .before)))
-    (λ c. search needs) (λ c κs. search needs) (λ c κs. search needs) (λ c. search needs) (λ c. search needs) returns returns-2 returns-3)
+    (λ c κs. search needs) (λ c κs. search needs) (λ c. search needs) returns returns-2)
