@@ -24,7 +24,9 @@ fn same_answer(recorded: &[u8]) -> bool
 }
 
 // 1 where a record differs. It is shown, so that it can be tried by hand.
-fn differs(recorded: &[u8]) -> u64 {
+fn differs(recorded: &[u8]) -> u64
+    ensures { λ r. ⌜ (r ≡ 0 → take 18 (now (recorded .entry)) ≡ take 18 (textOf (drop 19 (now (recorded .entry))))) ⌝ }
+{
     if same_answer(recorded) {
         return 0;
     }
