@@ -1,0 +1,48 @@
+// What a program in another language calls: a request given as numbers, one line, and a run over many
+// lines. Nothing is required of a caller but that each pointer leads to as many bytes as it says.
+ghost use mathlib.Core.Path.{_≡_};
+ghost use Prim.Native.Nat.{_/_};
+ghost use lib.ListN.{length};
+ghost use Rattle.line.specs.One.{statusIn, answered};
+ghost use Rattle.line.specs.Run.{done, runOf};
+ghost use Rattle.embed.specs.Asked.{statusOf, partsOf};
+use answer::ask;
+use line::one;
+use line::run;
+
+// The table of statuses from 3 on. The answer's flags, steps, R and S go in, in this order.
+#[no_mangle]
+pub extern "C" fn hatchyarn_ask(
+    op: u8,
+    mode: u8,
+    flags: u16,
+    x: u32,
+    y: u16,
+    answer: &mut [u16; 4],
+) -> u8
+    ensures { λ r. ⌜ (r ≡ statusOf op mode flags x y) × (now (answer .exit) ≡ partsOf op mode flags x y) ⌝ }
+{
+    let table = flags::parity::parity_table();
+    let a = ask::ask(op, mode, flags, x, y, &table);
+    *answer = [a.flags, a.steps, a.r, a.s];
+    a.status
+}
+
+// One line without its line feed: the whole table.
+#[no_mangle]
+pub extern "C" fn hatchyarn_line(line: &[u8], out: &mut [u8]) -> u8
+    ensures { λ r. ⌜ (r ≡ statusIn (length (now (out .entry))) (now (line .entry))) × (now (out .exit) ≡ answered (now (line .entry)) (now (out .entry))) ⌝ }
+{
+    one::answer_line(line, out)
+}
+
+// As many lines of the text as there is room for answers; returns how many, and through `used` how many
+// bytes of the text they are.
+#[no_mangle]
+pub extern "C" fn hatchyarn_run(text: &[u8], out: &mut [u8], at_end: bool, used: &mut usize) -> usize
+    ensures { λ r. ⌜ done (now (out .exit)) r (now (used .exit)) ≡ runOf (length (now (out .entry)) / 19) «at_end» (now (text .entry)) (now (out .entry)) ⌝ }
+{
+    let ran = run::run(text, out, at_end);
+    *used = ran.used;
+    ran.lines
+}
