@@ -1,0 +1,81 @@
+//! The three functions as the static library has them.
+//!
+//! They are safe to call with anything: nothing is required of a caller, and every request gets an
+//! answer. Use them for requests that come from elsewhere as numbers or as text; a program that
+//! writes its own requests is better served by [`Request`](crate::Request).
+
+/// What [`ask`] answers.
+#[derive(Clone, Copy, Debug, PartialEq, Eq, Hash)]
+pub struct Numbers {
+    /// 0 where the request was answered, 3 to 6 where it was refused.
+    pub status: u8,
+    pub flags: u16,
+    pub steps: u16,
+    pub r: u16,
+    pub s: u16,
+}
+
+/// What [`run`] did.
+#[derive(Clone, Copy, Debug, PartialEq, Eq, Hash)]
+pub struct Ran {
+    /// How many lines were answered, at 19 bytes each.
+    pub lines: usize,
+    /// How many bytes of the text they are, line feeds included.
+    pub used: usize,
+}
+
+mod linked {
+    // As in include/hatchyarn.h, and in crates/embed, where the contracts stand.
+    extern "C" {
+        pub fn hatchyarn_ask(op: u8, mode: u8, flags: u16, x: u32, y: u16, answer: *mut u16) -> u8;
+        pub fn hatchyarn_line(line: *const u8, length: usize, out: *mut u8, room: usize) -> u8;
+        pub fn hatchyarn_run(
+            text: *const u8,
+            length: usize,
+            out: *mut u8,
+            room: usize,
+            at_end: bool,
+            used: *mut usize,
+        ) -> usize;
+    }
+}
+
+/// Answers a request given as numbers: the table of statuses from 3 on.
+pub fn ask(op: u8, mode: u8, flags: u16, x: u32, y: u16) -> Numbers {
+    let mut answer = [0; 4];
+    // SAFETY: the function writes four numbers, and there is room for four.
+    let status = unsafe { linked::hatchyarn_ask(op, mode, flags, x, y, answer.as_mut_ptr()) };
+    let [flags, steps, r, s] = answer;
+    Numbers {
+        status,
+        flags,
+        steps,
+        r,
+        s,
+    }
+}
+
+/// Answers one line, given without its line feed. The answer's 19 bytes go to the front of `out`.
+/// Where `out` is shorter, the status is 7 and nothing is written.
+pub fn line(line: &[u8], out: &mut [u8]) -> u8 {
+    // SAFETY: each pointer goes with the length of its slice, and the two slices are apart.
+    unsafe { linked::hatchyarn_line(line.as_ptr(), line.len(), out.as_mut_ptr(), out.len()) }
+}
+
+/// Answers as many lines of `text` as `out` has room for. A last line without a line feed is a line
+/// where `at_end` says that no more text follows, and waits otherwise.
+pub fn run(text: &[u8], out: &mut [u8], at_end: bool) -> Ran {
+    let mut used = 0;
+    // SAFETY: each pointer goes with the length of its slice, and all that is written is apart.
+    let lines = unsafe {
+        linked::hatchyarn_run(
+            text.as_ptr(),
+            text.len(),
+            out.as_mut_ptr(),
+            out.len(),
+            at_end,
+            &mut used,
+        )
+    };
+    Ran { lines, used }
+}
