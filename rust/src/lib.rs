@@ -1,2 +1,44 @@
 //! The arithmetic of Intel's 8088, proved.
+//!
+//! An 8088 adds, subtracts, shifts, rotates, multiplies, divides and adjusts decimal digits. This
+//! crate gives its results, its six flags and the steps of its microcode. The work is done by a
+//! static library whose every function is proved; what stands here only carries numbers to it and
+//! back.
+//!
+//! An [`Operation`] holds its operands at the width that it works on, and [`Flags`] hold nothing
+//! but flags, so a request that the chip could not be given does not compile:
+//!
+//! ```
+//! use hatchyarn::{Flags, Operation};
+//!
+//! let divide = Operation::Divide8 { dividend: 0x0007, divisor: 0x02, signed: false, rep: false };
+//! let answer = divide.ask(Flags::NONE)?;
+//! assert_eq!((answer.r, answer.s), (3, 1));
+//! assert_eq!(answer.steps, 81);
+//! # Ok::<(), hatchyarn::Refusal>(())
+//! ```
+//!
+//! A divide that the chip traps is a [`Refusal`]. This one would have the quotient -128:
+//!
+//! ```
+//! use hatchyarn::{Flags, Operation, Refusal};
+//!
+//! let divide = Operation::Divide8 { dividend: 0xFF80, divisor: 0x01, signed: true, rep: false };
+//! let refusal = divide.ask(Flags::CARRY).unwrap_err();
+//! assert_eq!(refusal, Refusal::Divide { flags: Flags::CARRY, steps: 95 });
+//! println!("closed: {refusal}");
+//! ```
+//!
+//! Requests that come as text are answered line by line ([`answer_line`]) or as a whole
+//! ([`answer_all`]). Requests that come as numbers that nobody has checked go to [`raw::ask`].
+
+mod answer;
+mod flags;
+mod lines;
+mod operation;
 pub mod raw;
+
+pub use answer::{Answer, Refusal};
+pub use flags::Flags;
+pub use lines::{answer_all, answer_line, ANSWER_BYTES};
+pub use operation::{Adjust, Operation, Shift, Sum};

@@ -1,0 +1,118 @@
+/*
+ * hatchyarn.h - the arithmetic of Intel's 8088, proved.
+ *
+ * Link with -lhatchyarn. The functions keep no state, allocate nothing and may be called from any
+ * number of threads at once. Every request gets an answer: nothing has to be checked before a call.
+ *
+ * What a pointer leads to must be there: a function reads or writes no more than is said below, and
+ * what it writes must not overlap what it reads.
+ */
+#ifndef HATCHYARN_H
+#define HATCHYARN_H
+
+#include <stdbool.h>
+#include <stddef.h>
+#include <stdint.h>
+
+#ifdef __cplusplus
+extern "C" {
+#endif
+
+/* How a request was answered. */
+enum hatchyarn_status {
+    HATCHYARN_DONE = 0,           /* flags, steps and results are those of the chip */
+    HATCHYARN_BAD_LENGTH = 1,     /* the line is not 20 bytes long */
+    HATCHYARN_BAD_DIGIT = 2,      /* a byte of the line is no hexadecimal digit */
+    HATCHYARN_BAD_OP = 3,         /* the op is not listed */
+    HATCHYARN_BAD_MODE = 4,       /* the mode does not fit the op */
+    HATCHYARN_TOO_LARGE = 5,      /* X or Y is too large, or a bit of the flags word is no flag */
+    HATCHYARN_DIVIDE_REFUSED = 6, /* the chip traps: the divisor is 0 or the quotient does not fit */
+    HATCHYARN_NO_ROOM = 7         /* there is no room for an answer, and nothing was written */
+};
+
+/* What to do. */
+enum hatchyarn_op {
+    HATCHYARN_OP_ADD = 0x00,
+    HATCHYARN_OP_ADC = 0x01,
+    HATCHYARN_OP_SUB = 0x02,
+    HATCHYARN_OP_SBB = 0x03,
+    HATCHYARN_OP_NEG = 0x04,
+    HATCHYARN_OP_SHL = 0x05,
+    HATCHYARN_OP_SHR = 0x06,
+    HATCHYARN_OP_SAR = 0x07,
+    HATCHYARN_OP_ROL = 0x08,
+    HATCHYARN_OP_ROR = 0x09,
+    HATCHYARN_OP_RCL = 0x0A,
+    HATCHYARN_OP_RCR = 0x0B,
+    HATCHYARN_OP_SHL_AF = 0x0C, /* SHL that also sets A */
+    HATCHYARN_OP_MULTIPLY = 0x10,
+    HATCHYARN_OP_DIVIDE = 0x11,
+    HATCHYARN_OP_AAA = 0x18,
+    HATCHYARN_OP_AAS = 0x19,
+    HATCHYARN_OP_AAD = 0x1A,
+    HATCHYARN_OP_DAA = 0x1B,
+    HATCHYARN_OP_DAS = 0x1C
+};
+
+/* How to do it; these are added up. */
+enum hatchyarn_mode {
+    HATCHYARN_MODE_BYTE = 0x00,
+    HATCHYARN_MODE_WORD = 0x01,   /* sixteen bits; not for AAA to DAS */
+    HATCHYARN_MODE_SIGNED = 0x02, /* multiply and divide alone */
+    HATCHYARN_MODE_REP = 0x04     /* multiply and divide alone */
+};
+
+/* The bits of a flags word. */
+enum hatchyarn_flag {
+    HATCHYARN_FLAG_C = 0x0001,
+    HATCHYARN_FLAG_P = 0x0004,
+    HATCHYARN_FLAG_A = 0x0010,
+    HATCHYARN_FLAG_Z = 0x0040,
+    HATCHYARN_FLAG_S = 0x0080,
+    HATCHYARN_FLAG_O = 0x0800
+};
+
+/* What the chip gives. After the statuses 3 to 5 all of it is 0. After HATCHYARN_DIVIDE_REFUSED
+ * the flags are those handed in, the steps are those up to the trap, and r and s are 0. */
+struct hatchyarn_answer {
+    uint16_t flags;
+    uint16_t steps; /* of the microcode */
+    uint16_t r;     /* result, AX, quotient, 8-bit product or upper half of a 16-bit one */
+    uint16_t s;     /* remainder or lower half of a 16-bit product, else 0 */
+};
+
+/* The bytes of an answer line, its line feed included. */
+#define HATCHYARN_ANSWER_BYTES 19
+
+/*
+ * Answers a request given as numbers. X is the left operand, dividend or AX; Y is the right operand,
+ * count, divisor or AAD's byte, and 0 where there is none. Signed numbers are two's complement.
+ *
+ * Returns HATCHYARN_DONE or one of HATCHYARN_BAD_OP to HATCHYARN_DIVIDE_REFUSED; *answer is written
+ * whichever it is.
+ */
+uint8_t hatchyarn_ask(uint8_t op, uint8_t mode, uint16_t flags, uint32_t x, uint16_t y,
+                      struct hatchyarn_answer *answer);
+
+/*
+ * Answers one request line of `length` bytes, given without its line feed. Returns the line's status.
+ * The first 19 bytes of `out` then hold the answer line and the rest of its `room` bytes are as they
+ * were. Where `room` is under 19, returns HATCHYARN_NO_ROOM and writes nothing.
+ */
+uint8_t hatchyarn_line(const uint8_t *line, size_t length, uint8_t *out, size_t room);
+
+/*
+ * Answers the lines of a text of `length` bytes in their order, as many as there is room for at 19
+ * bytes each. A last line without a line feed is answered where at_end is true; otherwise it waits
+ * for the text that follows. Returns how many lines were answered, and writes to *used how many bytes
+ * of the text they are, line feeds included: go on from there. Bytes of `out` after the last answer
+ * are as they were.
+ */
+size_t hatchyarn_run(const uint8_t *text, size_t length, uint8_t *out, size_t room, bool at_end,
+                     size_t *used);
+
+#ifdef __cplusplus
+}
+#endif
+
+#endif

@@ -1,0 +1,86 @@
+/* Each function of hatchyarn.h, called as a C program calls it. Prints what failed, or 'calls: ok'. */
+#include <hatchyarn.h>
+#include <stdio.h>
+#include <string.h>
+
+_Static_assert(sizeof(struct hatchyarn_answer) == 8, "the library writes four 16-bit numbers");
+
+static int failed;
+
+static void expect(bool held, const char *what)
+{
+    if (!held) {
+        printf("calls: %s\n", what);
+        failed = 1;
+    }
+}
+
+static const char *const session = "11000000000000070002\n110200000000FF800001";
+static const char *const answers = "000001005100030001\n060000005F00000000\n";
+
+static bool is(const struct hatchyarn_answer *a, unsigned flags, unsigned steps, unsigned r, unsigned s)
+{
+    return a->flags == flags && a->steps == steps && a->r == r && a->s == s;
+}
+
+static void asks(void)
+{
+    struct hatchyarn_answer a;
+    const uint8_t signed8 = HATCHYARN_MODE_BYTE | HATCHYARN_MODE_SIGNED;
+
+    expect(hatchyarn_ask(HATCHYARN_OP_ADC, 0, HATCHYARN_FLAG_C, 0xFF, 0, &a) == HATCHYARN_DONE
+               && is(&a, HATCHYARN_FLAG_C | HATCHYARN_FLAG_A, 0, 0, 0), "FF + 00 with carry");
+    expect(hatchyarn_ask(HATCHYARN_OP_DIVIDE, signed8, 0, 0xFF81, 1, &a) == HATCHYARN_DONE
+               && a.steps == 111 && a.r == 0x81 && a.s == 0, "FF81 / 01, signed");
+    expect(hatchyarn_ask(HATCHYARN_OP_DIVIDE, signed8, HATCHYARN_FLAG_Z, 0xFF80, 1, &a)
+                   == HATCHYARN_DIVIDE_REFUSED
+               && is(&a, HATCHYARN_FLAG_Z, 95, 0, 0), "FF80 / 01, signed");
+    expect(hatchyarn_ask(HATCHYARN_OP_MULTIPLY, HATCHYARN_MODE_WORD, 0, 0xFFFF, 0xFFFF, &a)
+                   == HATCHYARN_DONE
+               && a.r == 0xFFFE && a.s == 0x0001, "FFFF x FFFF");
+    expect(hatchyarn_ask(0xFF, 0, 0, 0, 0, &a) == HATCHYARN_BAD_OP && is(&a, 0, 0, 0, 0), "op FF");
+    expect(hatchyarn_ask(HATCHYARN_OP_AAA, HATCHYARN_MODE_WORD, 0, 0, 0, &a) == HATCHYARN_BAD_MODE,
+           "AAA at 16 bits");
+    expect(hatchyarn_ask(HATCHYARN_OP_ADD, 0, 0, 0x100, 0, &a) == HATCHYARN_TOO_LARGE, "100 + 00");
+    expect(hatchyarn_ask(HATCHYARN_OP_ADD, 0, 2, 0, 0, &a) == HATCHYARN_TOO_LARGE, "flags 0002");
+}
+
+static void lines(void)
+{
+    uint8_t out[HATCHYARN_ANSWER_BYTES + 1];
+    const uint8_t *line = (const uint8_t *)session;
+
+    memset(out, '?', sizeof out);
+    expect(hatchyarn_line(line, 20, out, sizeof out) == HATCHYARN_DONE
+               && memcmp(out, answers, 19) == 0 && out[19] == '?', "a line");
+    memset(out, '?', sizeof out);
+    expect(hatchyarn_line(line, 20, out, 18) == HATCHYARN_NO_ROOM && out[0] == '?', "a line without room");
+    expect(hatchyarn_line(line, 19, out, 19) == HATCHYARN_BAD_LENGTH, "a short line");
+    expect(hatchyarn_line((const uint8_t *)"1100000000000007000G", 20, out, 19) == HATCHYARN_BAD_DIGIT,
+           "a line with no digit");
+}
+
+static void runs(void)
+{
+    uint8_t out[3 * HATCHYARN_ANSWER_BYTES];
+    const uint8_t *text = (const uint8_t *)session;
+    size_t length = strlen(session), used = 99;
+
+    memset(out, '?', sizeof out);
+    expect(hatchyarn_run(text, length, out, sizeof out, false, &used) == 1 && used == 21
+               && memcmp(out, answers, 19) == 0 && out[19] == '?', "a run whose last line waits");
+    expect(hatchyarn_run(text, length, out, sizeof out, true, &used) == 2 && used == length
+               && memcmp(out, answers, 38) == 0 && out[38] == '?', "a run to the end");
+    expect(hatchyarn_run(text, length, out, 37, true, &used) == 1 && used == 21, "a run with room for one");
+    expect(hatchyarn_run(text, 0, out, sizeof out, true, &used) == 0 && used == 0, "a run over nothing");
+}
+
+int main(void)
+{
+    asks();
+    lines();
+    runs();
+    if (!failed)
+        puts("calls: ok");
+    return failed;
+}
