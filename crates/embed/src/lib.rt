@@ -39,7 +39,12 @@ pub extern "C" fn hatchyarn_line(line: &[u8], out: &mut [u8]) -> u8
 // As many lines of the text as there is room for answers; returns how many, and through `used` how many
 // bytes of the text they are.
 #[no_mangle]
-pub extern "C" fn hatchyarn_run(text: &[u8], out: &mut [u8], at_end: bool, used: &mut usize) -> usize
+pub extern "C" fn hatchyarn_run(
+    text: &[u8],
+    out: &mut [u8],
+    at_end: bool,
+    used: &mut usize,
+) -> usize
     ensures { λ r. ⌜ done (now (out .exit)) r (now (used .exit)) ≡ runOf (length (now (out .entry)) / 19) «at_end» (now (text .entry)) (now (out .entry)) ⌝ }
 {
     let ran = run::run(text, out, at_end);

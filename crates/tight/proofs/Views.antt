@@ -1,0 +1,173 @@
+-- Each view of a value of one width as one over n loses nothing. Assumes nothing.
+use mathlib.Core.Path.{_≡_, refl, ap}
+use mathlib.Core.List.{List}
+use Prim.Native.Nat.{ℕ, _<_}
+use native.Mathlib.Omega.{arith}
+use Rattle.alu.specs.Result.{ResultC}
+use Rattle.alu.specs.declared.result.ResultC8.{ResultC8}
+use Rattle.alu.specs.declared.result.ResultC16.{ResultC16}
+use Rattle.alu.specs.Result.{ResultCo}
+use Rattle.alu.specs.declared.result.ResultCo8.{ResultCo8}
+use Rattle.alu.specs.declared.result.ResultCo16.{ResultCo16}
+use Rattle.alu.specs.Result.{ResultCoa}
+use Rattle.alu.specs.declared.result.ResultCoa8.{ResultCoa8}
+use Rattle.alu.specs.declared.result.ResultCoa16.{ResultCoa16}
+use Rattle.alu.specs.Step.{Step}
+use Rattle.alu.specs.declared.step.Step8.{Step8}
+use Rattle.alu.specs.declared.step.Step16.{Step16}
+use Rattle.negate.specs.Negate.{Pair}
+use Rattle.negate.specs.declared.Pair8.{Pair8}
+use Rattle.negate.specs.declared.Pair16.{Pair16}
+use Rattle.negate.specs.Negate.{Negate}
+use Rattle.negate.specs.declared.Negate8.{Negate8}
+use Rattle.negate.specs.declared.Negate16.{Negate16}
+use Rattle.multiply.specs.Corx.{Halves}
+use Rattle.multiply.specs.declared.corx.Halves8.{Halves8}
+use Rattle.multiply.specs.declared.corx.Halves16.{Halves16}
+use Rattle.multiply.specs.Routines.{Multiplied}
+use Rattle.multiply.specs.declared.mul.Product8.{Product8}
+use Rattle.multiply.specs.declared.mul.Product16.{Product16}
+use Rattle.divide.specs.Cord as Cord
+use Rattle.divide.specs.declared.cord.CordAnswer8.{CordAnswer8}
+use Rattle.divide.specs.declared.cord.CordAnswer8.the-variants.{Accepted as cordAccepted8, Refused as cordRefused8}
+use Rattle.divide.specs.declared.cord.CordAnswer16.{CordAnswer16}
+use Rattle.divide.specs.declared.cord.CordAnswer16.the-variants.{Accepted as cordAccepted16, Refused as cordRefused16}
+use Rattle.divide.specs.Idiv as Idiv
+use Rattle.divide.specs.declared.idiv.PostIdiv8.{PostIdiv8}
+use Rattle.divide.specs.declared.idiv.PostIdiv8.the-variants.{Accepted as postAccepted8, Refused as postRefused8}
+use Rattle.divide.specs.declared.idiv.PostIdiv16.{PostIdiv16}
+use Rattle.divide.specs.declared.idiv.PostIdiv16.the-variants.{Accepted as postAccepted16, Refused as postRefused16}
+use Rattle.divide.specs.Divide as Divide
+use Rattle.divide.specs.declared.div.Divided8.{Divided8}
+use Rattle.divide.specs.declared.div.Divided8.the-variants.{Accepted as dividedAccepted8, Refused as dividedRefused8}
+use Rattle.divide.specs.declared.div.Divided16.{Divided16}
+use Rattle.divide.specs.declared.div.Divided16.the-variants.{Accepted as dividedAccepted16, Refused as dividedRefused16}
+use Rattle.line.specs.Run.{Done, done}
+use Rattle.alu.specs.Views.{c8, c16, co8, co16, coa8, coa16, step8, step16}
+use Rattle.negate.specs.Views.{pair8, pair16, negate8, negate16}
+use Rattle.multiply.specs.Views.{halves8, halves16, product8, product16}
+use Rattle.divide.specs.Views.{cord8Answer, cord16Answer, post8Answer, post16Answer, divided8, divided16}
+use Rattle.tight.proofs.Law.{Faithful}
+
+pub c8-faithful : Faithful c8
+c8-faithful = record { back = λ (g : ResultC). record { result = g .result; carry = g .carry }; kept = λ a. refl }
+
+pub c16-faithful : Faithful c16
+c16-faithful = record { back = λ (g : ResultC). record { result = g .result; carry = g .carry }; kept = λ a. refl }
+
+pub co8-faithful : Faithful co8
+co8-faithful = record { back = λ (g : ResultCo). record { result = g .result; carry = g .carry; overflow = g .overflow }; kept = λ a. refl }
+
+pub co16-faithful : Faithful co16
+co16-faithful = record { back = λ (g : ResultCo). record { result = g .result; carry = g .carry; overflow = g .overflow }; kept = λ a. refl }
+
+pub coa8-faithful : Faithful coa8
+coa8-faithful = record { back = λ (g : ResultCoa). record { result = g .result; carry = g .carry; overflow = g .overflow; «aux_carry» = g .auxCarry }; kept = λ a. refl }
+
+pub coa16-faithful : Faithful coa16
+coa16-faithful = record { back = λ (g : ResultCoa). record { result = g .result; carry = g .carry; overflow = g .overflow; «aux_carry» = g .auxCarry }; kept = λ a. refl }
+
+pub step8-faithful : Faithful step8
+step8-faithful = record { back = λ (g : Step). record { value = g .value; carry = g .carry }; kept = λ a. refl }
+
+pub step16-faithful : Faithful step16
+step16-faithful = record { back = λ (g : Step). record { value = g .value; carry = g .carry }; kept = λ a. refl }
+
+pub pair8-faithful : Faithful pair8
+pair8-faithful = record { back = λ (g : Pair). record { tmpa = g .tmpa; tmpc = g .tmpc; «neg_flag» = g .negFlag; steps = g .steps }; kept = λ a. refl }
+
+pub pair16-faithful : Faithful pair16
+pair16-faithful = record { back = λ (g : Pair). record { tmpa = g .tmpa; tmpc = g .tmpc; «neg_flag» = g .negFlag; steps = g .steps }; kept = λ a. refl }
+
+pub negate8-faithful : Faithful negate8
+negate8-faithful = record { back = λ (g : Negate). record { tmpa = g .tmpa; tmpb = g .tmpb; tmpc = g .tmpc; carry = g .carry; «neg_flag» = g .negFlag; steps = g .steps }; kept = λ a. refl }
+
+pub negate16-faithful : Faithful negate16
+negate16-faithful = record { back = λ (g : Negate). record { tmpa = g .tmpa; tmpb = g .tmpb; tmpc = g .tmpc; carry = g .carry; «neg_flag» = g .negFlag; steps = g .steps }; kept = λ a. refl }
+
+pub halves8-faithful : Faithful halves8
+halves8-faithful = record { back = λ (g : Halves). record { tmpa = g .tmpa; tmpc = g .tmpc; steps = g .steps }; kept = λ a. refl }
+
+pub halves16-faithful : Faithful halves16
+halves16-faithful = record { back = λ (g : Halves). record { tmpa = g .tmpa; tmpc = g .tmpc; steps = g .steps }; kept = λ a. refl }
+
+pub product8-faithful : Faithful product8
+product8-faithful = record { back = λ (g : Multiplied). record { product = g .product; flags = g .flags; steps = g .steps }; kept = λ a. refl }
+
+-- its halves are read back from a product whose lower half is 16 bits, as the type says
+pub product16-tight : (r s : Product16) → r .lower < 0x1_0000 → s .lower < 0x1_0000 → product16 r ≡ product16 s → r ≡ s
+product16-tight r s b c e =
+    let all = ap (λ (m : Multiplied). m .product) e in
+    let upper : r .upper ≡ s .upper = omega (arith, all, b, c) in
+    let lower : r .lower ≡ s .lower = omega (arith, all, b, c) in
+    λ i. record { upper = upper i; lower = lower i; flags = e i .flags; steps = e i .steps }
+
+abbrev cord8Answer-back : Cord.CordAnswer → CordAnswer8
+cord8Answer-back (Cord.accepted q r c l t) = cordAccepted8 q r c l t
+cord8Answer-back (Cord.refused t) = cordRefused8 t
+
+cord8Answer-kept : (a : CordAnswer8) → cord8Answer-back (cord8Answer a) ≡ a
+cord8Answer-kept (cordAccepted8 q r c l t) = refl
+cord8Answer-kept (cordRefused8 t) = refl
+
+pub cord8Answer-faithful : Faithful cord8Answer
+cord8Answer-faithful = record { back = cord8Answer-back; kept = cord8Answer-kept }
+
+abbrev cord16Answer-back : Cord.CordAnswer → CordAnswer16
+cord16Answer-back (Cord.accepted q r c l t) = cordAccepted16 q r c l t
+cord16Answer-back (Cord.refused t) = cordRefused16 t
+
+cord16Answer-kept : (a : CordAnswer16) → cord16Answer-back (cord16Answer a) ≡ a
+cord16Answer-kept (cordAccepted16 q r c l t) = refl
+cord16Answer-kept (cordRefused16 t) = refl
+
+pub cord16Answer-faithful : Faithful cord16Answer
+cord16Answer-faithful = record { back = cord16Answer-back; kept = cord16Answer-kept }
+
+abbrev post8Answer-back : Idiv.PostAnswer → PostIdiv8
+post8Answer-back (Idiv.accepted q r t) = postAccepted8 q r t
+post8Answer-back (Idiv.refused t) = postRefused8 t
+
+post8Answer-kept : (a : PostIdiv8) → post8Answer-back (post8Answer a) ≡ a
+post8Answer-kept (postAccepted8 q r t) = refl
+post8Answer-kept (postRefused8 t) = refl
+
+pub post8Answer-faithful : Faithful post8Answer
+post8Answer-faithful = record { back = post8Answer-back; kept = post8Answer-kept }
+
+abbrev post16Answer-back : Idiv.PostAnswer → PostIdiv16
+post16Answer-back (Idiv.accepted q r t) = postAccepted16 q r t
+post16Answer-back (Idiv.refused t) = postRefused16 t
+
+post16Answer-kept : (a : PostIdiv16) → post16Answer-back (post16Answer a) ≡ a
+post16Answer-kept (postAccepted16 q r t) = refl
+post16Answer-kept (postRefused16 t) = refl
+
+pub post16Answer-faithful : Faithful post16Answer
+post16Answer-faithful = record { back = post16Answer-back; kept = post16Answer-kept }
+
+abbrev divided8-back : Divide.Divided → Divided8
+divided8-back (Divide.accepted q r f t) = dividedAccepted8 q r f t
+divided8-back (Divide.refused why f t) = dividedRefused8 why f t
+
+divided8-kept : (a : Divided8) → divided8-back (divided8 a) ≡ a
+divided8-kept (dividedAccepted8 q r f t) = refl
+divided8-kept (dividedRefused8 why f t) = refl
+
+pub divided8-faithful : Faithful divided8
+divided8-faithful = record { back = divided8-back; kept = divided8-kept }
+
+abbrev divided16-back : Divide.Divided → Divided16
+divided16-back (Divide.accepted q r f t) = dividedAccepted16 q r f t
+divided16-back (Divide.refused why f t) = dividedRefused16 why f t
+
+divided16-kept : (a : Divided16) → divided16-back (divided16 a) ≡ a
+divided16-kept (dividedAccepted16 q r f t) = refl
+divided16-kept (dividedRefused16 why f t) = refl
+
+pub divided16-faithful : Faithful divided16
+divided16-faithful = record { back = divided16-back; kept = divided16-kept }
+
+-- what a run leaves: answer bytes, lines and bytes used
+pub done-tight : (b c : List ℕ) (l m u v : ℕ) → done b l u ≡ done c m v → (b ≡ c) × (l ≡ m) × (u ≡ v)
+done-tight b c l m u v e = (ap (λ (d : Done). d .bytes) e, ap (λ (d : Done). d .lines) e, ap (λ (d : Done). d .used) e)
