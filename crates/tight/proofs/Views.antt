@@ -15,9 +15,6 @@ use Rattle.alu.specs.declared.result.ResultCoa16.{ResultCoa16}
 use Rattle.alu.specs.Step.{Step}
 use Rattle.alu.specs.declared.step.Step8.{Step8}
 use Rattle.alu.specs.declared.step.Step16.{Step16}
-use Rattle.negate.specs.Negate.{Pair}
-use Rattle.negate.specs.declared.Pair8.{Pair8}
-use Rattle.negate.specs.declared.Pair16.{Pair16}
 use Rattle.negate.specs.Negate.{Negate}
 use Rattle.negate.specs.declared.Negate8.{Negate8}
 use Rattle.negate.specs.declared.Negate16.{Negate16}
@@ -44,7 +41,7 @@ use Rattle.divide.specs.declared.div.Divided16.{Divided16}
 use Rattle.divide.specs.declared.div.Divided16.the-variants.{Accepted as dividedAccepted16, Refused as dividedRefused16}
 use Rattle.line.specs.Run.{Done, done}
 use Rattle.alu.specs.Views.{c8, c16, co8, co16, coa8, coa16, step8, step16}
-use Rattle.negate.specs.Views.{pair8, pair16, negate8, negate16}
+use Rattle.negate.specs.Views.{negate8, negate16}
 use Rattle.multiply.specs.Views.{halves8, halves16, product8, product16}
 use Rattle.divide.specs.Views.{cord8Answer, cord16Answer, post8Answer, post16Answer, divided8, divided16}
 use Rattle.tight.proofs.Law.{Faithful}
@@ -72,12 +69,6 @@ step8-faithful = record { back = λ (g : Step). record { value = g .value; carry
 
 pub step16-faithful : Faithful step16
 step16-faithful = record { back = λ (g : Step). record { value = g .value; carry = g .carry }; kept = λ a. refl }
-
-pub pair8-faithful : Faithful pair8
-pair8-faithful = record { back = λ (g : Pair). record { tmpa = g .tmpa; tmpc = g .tmpc; «neg_flag» = g .negFlag; steps = g .steps }; kept = λ a. refl }
-
-pub pair16-faithful : Faithful pair16
-pair16-faithful = record { back = λ (g : Pair). record { tmpa = g .tmpa; tmpc = g .tmpc; «neg_flag» = g .negFlag; steps = g .steps }; kept = λ a. refl }
 
 pub negate8-faithful : Faithful negate8
 negate8-faithful = record { back = λ (g : Negate). record { tmpa = g .tmpa; tmpb = g .tmpb; tmpc = g .tmpc; carry = g .carry; «neg_flag» = g .negFlag; steps = g .steps }; kept = λ a. refl }
