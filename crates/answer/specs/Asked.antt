@@ -1,4 +1,5 @@
 -- The answer to a raw request: the table of statuses from 3 on. Assumes nothing.
+use mathlib.Core.List.{List, [], _∷_}
 use Prim.Native.Nat.{ℕ}
 use Rattle.request.specs.Judge.{judged}
 use Rattle.request.specs.declared.judge.Judged.{Judged}
@@ -18,3 +19,13 @@ answered TooLarge = zeros 5
 
 unfoldable pub asked : ℕ → ℕ → ℕ → ℕ → ℕ → Answer
 asked op mode flags x y = answered (judged op mode flags x y)
+
+-- in parts: the status, and flags, steps, R and S
+abbrev pub statusOf : ℕ → ℕ → ℕ → ℕ → ℕ → ℕ
+statusOf op mode flags x y = asked op mode flags x y .status
+
+abbrev pub parts : Answer → List ℕ
+parts a = a .flags ∷ a .steps ∷ a .r ∷ a .s ∷ []
+
+abbrev pub partsOf : ℕ → ℕ → ℕ → ℕ → ℕ → List ℕ
+partsOf op mode flags x y = parts (asked op mode flags x y)

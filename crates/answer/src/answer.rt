@@ -1,6 +1,5 @@
 // An answer, and those of the multiplies, divides and adjusts.
 ghost use mathlib.Core.Path.{_≡_};
-ghost use Rattle.flags.specs.Parity.{ParityTable};
 ghost use Rattle.divide.specs.Views.{divided8, divided16};
 ghost use Rattle.multiply.specs.Views.{product8, product16};
 ghost use Rattle.answer.specs.Charted.{answerOf, plainOf, ofProduct8, ofProduct16, ofDivided, ofAdjusted, adjustOf};
@@ -9,6 +8,7 @@ use bcd::ascii;
 use bcd::decimal;
 use divide::div::Divided8;
 use divide::div::Divided16;
+use flags::parity;
 use flags::word::Flags;
 use multiply::mul::Product8;
 use multiply::mul::Product16;
@@ -88,15 +88,15 @@ fn of_adjusted(made: Adjusted) -> Answer
     whole(0, made.flags, made.steps, made.ax, 0)
 }
 
-pub fn adjust(decimal: Decimal, ax: u16, byte: u8, flags: Flags, table: &[u8; 256]) -> Answer
-    requires { ⌜ ParityTable (now table) ⌝ }
+pub fn adjust(decimal: Decimal, ax: u16, byte: u8, flags: Flags) -> Answer
     ensures { λ a. ⌜ a ≡ ofAdjusted (adjustOf decimal ax byte flags) ⌝ }
 {
+    let table = parity::parity_table();
     match decimal {
-        Decimal::Aaa => of_adjusted(ascii::aaa(ax, flags, table)),
-        Decimal::Aas => of_adjusted(ascii::aas(ax, flags, table)),
-        Decimal::Aad => of_adjusted(ascii::aad(ax, byte, flags, table)),
-        Decimal::Daa => of_adjusted(decimal::daa(ax, flags, table)),
-        Decimal::Das => of_adjusted(decimal::das(ax, flags, table)),
+        Decimal::Aaa => of_adjusted(ascii::aaa(ax, flags, &table)),
+        Decimal::Aas => of_adjusted(ascii::aas(ax, flags, &table)),
+        Decimal::Aad => of_adjusted(ascii::aad(ax, byte, flags, &table)),
+        Decimal::Daa => of_adjusted(decimal::daa(ax, flags, &table)),
+        Decimal::Das => of_adjusted(decimal::das(ax, flags, &table)),
     }
 }

@@ -1,14 +1,14 @@
 // Requests answered: a judged one, and a raw one, which no caller has checked.
 ghost use mathlib.Core.Path.{_≡_};
 ghost use Prim.Native.Nat.{_≤_};
-ghost use Rattle.flags.specs.Parity.{ParityTable};
 ghost use Rattle.request.specs.Limits.{largest, dividendMost, xMost, yMost};
 ghost use Rattle.answer.specs.Charted.{multipliedOf, dividedOf, charted};
-ghost use Rattle.answer.specs.Asked.{zeros, asked};
+ghost use Rattle.answer.specs.Asked.{zeros, asked, statusOf, partsOf};
 use crate::alu_answer;
 use crate::answer;
 use crate::answer::Answer;
 use divide::div;
+use flags::parity;
 use flags::word::Flags;
 use multiply::mul;
 use request::judge;
@@ -18,11 +18,11 @@ use request::operation::Mode;
 use request::operation::Operation;
 use request::operation::Width;
 
-fn multiplied(mode: Mode, x: u32, y: u16, flags: Flags, table: &[u8; 256]) -> Answer
-    requires { ⌜ ParityTable (now table) ⌝ }
+fn multiplied(mode: Mode, x: u32, y: u16, flags: Flags) -> Answer
     requires { ⌜ (x ≤ largest (mode .width)) × (y ≤ largest (mode .width)) ⌝ }
     ensures { λ a. ⌜ a ≡ multipliedOf mode x y flags ⌝ }
 {
+    let table = parity::parity_table();
     let width = mode.width;
     match width {
         Width::Byte => {
@@ -32,7 +32,7 @@ fn multiplied(mode: Mode, x: u32, y: u16, flags: Flags, table: &[u8; 256]) -> An
                 mode.signed,
                 mode.rep,
                 flags,
-                table,
+                &table,
             );
             answer::of_product8(made)
         }
@@ -43,18 +43,18 @@ fn multiplied(mode: Mode, x: u32, y: u16, flags: Flags, table: &[u8; 256]) -> An
                 mode.signed,
                 mode.rep,
                 flags,
-                table,
+                &table,
             );
             answer::of_product16(made)
         }
     }
 }
 
-fn divided(mode: Mode, x: u32, y: u16, flags: Flags, table: &[u8; 256]) -> Answer
-    requires { ⌜ ParityTable (now table) ⌝ }
+fn divided(mode: Mode, x: u32, y: u16, flags: Flags) -> Answer
     requires { ⌜ (x ≤ dividendMost (mode .width)) × (y ≤ largest (mode .width)) ⌝ }
     ensures { λ a. ⌜ a ≡ dividedOf mode x y flags ⌝ }
 {
+    let table = parity::parity_table();
     let width = mode.width;
     match width {
         Width::Byte => {
@@ -64,20 +64,19 @@ fn divided(mode: Mode, x: u32, y: u16, flags: Flags, table: &[u8; 256]) -> Answe
                 mode.signed,
                 mode.rep,
                 flags,
-                table,
+                &table,
             );
             answer::of_divided8(made)
         }
         Width::Word => {
-            let made = div::div16(x, y, mode.signed, mode.rep, flags, table);
+            let made = div::div16(x, y, mode.signed, mode.rep, flags, &table);
             answer::of_divided16(made)
         }
     }
 }
 
 // The answer to an admitted request.
-pub fn answer_request(request: Request, table: &[u8; 256]) -> Answer
-    requires { ⌜ ParityTable (now table) ⌝ }
+pub fn answer_request(request: Request) -> Answer
     requires { ⌜ (request .x ≤ xMost (request .operation)) × (request .y ≤ yMost (request .operation)) ⌝ }
     ensures { λ a. ⌜ a ≡ charted request ⌝ }
 {
@@ -90,16 +89,10 @@ pub fn answer_request(request: Request, table: &[u8; 256]) -> Answer
             Width::Byte => alu_answer::alu8(alu, (x % 0x100) as u8, (y % 0x100) as u8, flags),
             Width::Word => alu_answer::alu16(alu, (x % 0x1_0000) as u16, y, flags),
         },
-        Operation::Multiply(mode) => multiplied(mode, x, y, flags, table),
-        Operation::Divide(mode) => divided(mode, x, y, flags, table),
+        Operation::Multiply(mode) => multiplied(mode, x, y, flags),
+        Operation::Divide(mode) => divided(mode, x, y, flags),
         Operation::Decimal(decimal) => {
-            answer::adjust(
-                decimal,
-                (x % 0x1_0000) as u16,
-                (y % 0x100) as u8,
-                flags,
-                table,
-            )
+            answer::adjust(decimal, (x % 0x1_0000) as u16, (y % 0x100) as u8, flags)
         }
     }
 }
@@ -118,14 +111,23 @@ pub fn refused(status: u8) -> Answer
 }
 
 // The table of statuses from 3 on.
-pub fn ask(op: u8, mode: u8, flags: u16, x: u32, y: u16, table: &[u8; 256]) -> Answer
-    requires { ⌜ ParityTable (now table) ⌝ }
+fn ask(op: u8, mode: u8, flags: u16, x: u32, y: u16) -> Answer
     ensures { λ a. ⌜ a ≡ asked op mode flags x y ⌝ }
 {
     match judge::judge(op, mode, flags, x, y) {
-        Judged::Admitted(request) => answer_request(request, table),
+        Judged::Admitted(request) => answer_request(request),
         Judged::Unlisted => refused(3),
         Judged::WrongMode => refused(4),
         Judged::TooLarge => refused(5),
     }
+}
+
+// The same, in parts: flags, steps, R and S are written, and the status is returned. It is the one
+// caller of `ask`, so that the two are compiled into one and no answer is copied.
+pub fn ask_into(op: u8, mode: u8, flags: u16, x: u32, y: u16, parts: &mut [u16; 4]) -> u8
+    ensures { λ r. ⌜ (r ≡ statusOf op mode flags x y) × (now (parts .exit) ≡ partsOf op mode flags x y) ⌝ }
+{
+    let a = ask(op, mode, flags, x, y);
+    *parts = [a.flags, a.steps, a.r, a.s];
+    a.status
 }

@@ -5,7 +5,7 @@ ghost use Prim.Native.Nat.{_/_};
 ghost use lib.ListN.{length};
 ghost use Rattle.line.specs.One.{statusIn, answered};
 ghost use Rattle.line.specs.Run.{done, runOf};
-ghost use Rattle.embed.specs.Asked.{statusOf, partsOf};
+ghost use Rattle.answer.specs.Asked.{statusOf, partsOf};
 use answer::ask;
 use line::one;
 use line::run;
@@ -22,10 +22,7 @@ pub extern "C" fn hatchyarn_ask(
 ) -> u8
     ensures { λ r. ⌜ (r ≡ statusOf op mode flags x y) × (now (answer .exit) ≡ partsOf op mode flags x y) ⌝ }
 {
-    let table = flags::parity::parity_table();
-    let a = ask::ask(op, mode, flags, x, y, &table);
-    *answer = [a.flags, a.steps, a.r, a.s];
-    a.status
+    ask::ask_into(op, mode, flags, x, y, answer)
 }
 
 // One line without its line feed: the whole table.

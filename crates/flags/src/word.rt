@@ -58,29 +58,44 @@ impl Flags {
     }
 
     // What an operation that names C alone leaves: the other five as handed in.
-    pub fn with_c(mut self, carry: bool) -> Flags
+    pub fn with_c(self, carry: bool) -> Flags
         ensures { λ r. ⌜ r ≡ setC carry self ⌝ }
     {
-        self.carry = carry;
-        self
+        Flags {
+            carry,
+            parity: self.parity,
+            aux_carry: self.aux_carry,
+            zero: self.zero,
+            sign: self.sign,
+            overflow: self.overflow,
+        }
     }
 
     // What an operation that names C and O leaves.
-    pub fn with_co(mut self, carry: bool, overflow: bool) -> Flags
+    pub fn with_co(self, carry: bool, overflow: bool) -> Flags
         ensures { λ r. ⌜ r ≡ setCO carry overflow self ⌝ }
     {
-        self.carry = carry;
-        self.overflow = overflow;
-        self
+        Flags {
+            carry,
+            parity: self.parity,
+            aux_carry: self.aux_carry,
+            zero: self.zero,
+            sign: self.sign,
+            overflow,
+        }
     }
 
     // What an operation that names C, O and A leaves.
-    pub fn with_coa(mut self, carry: bool, overflow: bool, aux_carry: bool) -> Flags
+    pub fn with_coa(self, carry: bool, overflow: bool, aux_carry: bool) -> Flags
         ensures { λ r. ⌜ r ≡ setCOA carry overflow «aux_carry» self ⌝ }
     {
-        self.carry = carry;
-        self.overflow = overflow;
-        self.aux_carry = aux_carry;
-        self
+        Flags {
+            carry,
+            parity: self.parity,
+            aux_carry,
+            zero: self.zero,
+            sign: self.sign,
+            overflow,
+        }
     }
 }

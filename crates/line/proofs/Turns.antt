@@ -11,9 +11,11 @@ use lib.ListN.{length, take, drop, length-append, length-drop, take-append-drop,
 use lib.Seq.{take-at, drop-at, drop-drop, take-all, length-take-le}
 use borrow.Author.Tests.{lt-ltb, le-ltb, ltb-true, ltb-false}
 use borrow.Rule.Slice.PartMut.{putMid}
-use Rattle.text.specs.Lines.{lineLength}
+use Rattle.text.specs.Fields.{readOf}
+use Rattle.text.specs.Lines.{lineLength, lineAt}
+use Rattle.text.specs.declared.fields.Read.{Read}
 use Rattle.text.proofs.ReadBack.{written-length}
-use Rattle.line.specs.One.{answerOf, textOf, answered}
+use Rattle.line.specs.One.{answerBy, textBy, answerOf, textOf}
 use Rattle.line.specs.Run.{Done, done, after, lastRun, runOf, nextOf}
 
 -- ---- the next line
@@ -105,20 +107,13 @@ module _ (out a : List ℕ) (p : ℕ) (fits : p + 19 ≤ length out) (long : len
   drop-lent : drop (p + 19) (putMid p 19 out a) ≡ drop 19 (drop p out)
   drop-lent = rw (← append-assoc) (drop-at (take p out ++ a) _ (p + 19) head-length)
 
--- with room for 19 bytes and no more, the answer is all that is left there
-answered-whole : (line o : List ℕ) → length o ≡ 19 → answered line o ≡ textOf line
-answered-whole line o h =
-    let no : 19 ≤ length o = omega arith in
-    let le : length o ≤ 19 = omega arith in
-    simp (le-ltb (length o) 19 no, drop-of-length-le o le, append-nil)
-
 -- a turn: a is what stands in the lent part, of k bytes, then
-module _ (text out a : List ℕ) (room lines used end next k : ℕ) (e : Bool) (more : lines < room) (is-end : end ≡ used + lineLength (drop used text)) (is-next : next ≡ used + takes e (drop used text)) (on : next ≡ used → ⊥) (fits : lines * 19 + 19 ≤ length out) (is-19 : k ≡ 19) (is-answer : a ≡ answered (take (end - used) (drop used text)) (take k (drop (lines * 19) out))) where
+module _ (text out a : List ℕ) (room lines used next k : ℕ) (e : Bool) (read : Read) (more : lines < room) (is-read : read ≡ readOf (lineAt text used)) (is-next : next ≡ used + takes e (drop used text)) (on : next ≡ used → ⊥) (fits : lines * 19 + 19 ≤ length out) (is-19 : k ≡ 19) (is-answer : a ≡ textBy (answerBy read) ++ drop 19 (take k (drop (lines * 19) out))) where
   is-text : a ≡ textOf (take (lineLength (drop used text)) (drop used text))
+  unfolding textOf answerOf
   is-text =
-      let n : end - used ≡ lineLength (drop used text) = omega arith in
-      let room-19 : length (take 19 (drop (lines * 19) out)) ≡ 19 = length-take-le 19 (drop (lines * 19) out) (simp length-drop (omega arith)) in
-      is-answer ∙ rw (n, is-19) (answered-whole _ (take 19 (drop (lines * 19) out)) room-19)
+      let room-19 : length (take 19 (drop (lines * 19) out)) ≤ 19 = omega (arith, length-take-le 19 (drop (lines * 19) out) (simp length-drop (omega arith))) in
+      is-answer ∙ rw (is-read, is-19, drop-of-length-le (take 19 (drop (lines * 19) out)) room-19) (append-nil _)
 
   pub again : {R : Done}
       → after (take (lines * 19) out) lines used (runOf (room - lines) e (drop used text) (drop (lines * 19) out)) ≡ R

@@ -1,56 +1,63 @@
 // One line, handed in without its line feed, and lent room for the answer.
 ghost use mathlib.Core.Path.{_≡_};
+ghost use mathlib.Core.List.{_++_};
 ghost use Prim.Native.Nat.{_≤_, _<_};
-ghost use lib.ListN.{length};
-ghost use Rattle.flags.specs.Parity.{ParityTable};
-ghost use Rattle.text.specs.Digits.{DigitTable, CapitalTable};
-ghost use Rattle.line.specs.One.{answerOf, statusIn, answered};
+ghost use lib.ListN.{length, drop};
+ghost use Rattle.answer.specs.Asked.{asked};
+ghost use Rattle.text.specs.Digits.{CapitalTable};
+ghost use Rattle.line.specs.One.{answerBy, textBy, statusIn, answered};
 use answer::answer::Answer;
 use answer::ask;
 use text::digits;
 use text::fields;
+use text::fields::Fields;
 use text::fields::Read;
 use text::written;
 
-// What a line is answered.
-pub fn answer_of(digits: &[u8; 256], parity: &[u8; 256], line: &[u8]) -> Answer
-    requires { ⌜ DigitTable (now digits) ⌝ }
-    requires { ⌜ ParityTable (now parity) ⌝ }
-    ensures { λ a. ⌜ a ≡ answerOf (now (line .entry)) ⌝ }
+fn answer_fields(f: Fields) -> Answer
+    ensures { λ a. ⌜ a ≡ asked (f .op) (f .mode) (f .flags) (f .x) (f .y) ⌝ }
 {
-    match fields::read_fields(digits, line) {
-        Read::Fields(f) => ask::ask(f.op, f.mode, f.flags, f.x, f.y, parity),
+    let mut parts = [0u16; 4];
+    let status = ask::ask_into(f.op, f.mode, f.flags, f.x, f.y, &mut parts);
+    Answer {
+        status,
+        flags: parts[0],
+        steps: parts[1],
+        r: parts[2],
+        s: parts[3],
+    }
+}
+
+fn answer_read(read: Read) -> Answer
+    ensures { λ a. ⌜ a ≡ answerBy read ⌝ }
+{
+    match read {
+        Read::Fields(f) => answer_fields(f),
         Read::Length => ask::refused(1),
         Read::Digit => ask::refused(2),
     }
 }
 
-// 19 bytes are written on every status but 7, and nothing on 7.
-pub fn answer_by(
-    digits: &[u8; 256],
-    capitals: &[u8; 16],
-    parity: &[u8; 256],
-    line: &[u8],
-    out: &mut [u8],
-) -> u8
-    requires { ⌜ DigitTable (now digits) ⌝ }
+// Answers what was read of a line, in the first 19 bytes of the room.
+pub fn write_answer(capitals: &[u8; 16], read: Read, out: &mut [u8]) -> u8
     requires { ⌜ CapitalTable (now capitals) ⌝ }
-    requires { ⌜ ParityTable (now parity) ⌝ }
+    requires { ⌜ 19 ≤ length (now out) ⌝ }
+    ensures { λ r. ⌜ (r ≡ answerBy read .status) × (now (out .exit) ≡ textBy (answerBy read) ++ drop 19 (now (out .entry))) ⌝ }
+{
+    let a = answer_read(read);
+    written::write(capitals, a.status, a.flags, a.steps, a.r, a.s, out);
+    a.status
+}
+
+// 19 bytes are written on every status but 7, and nothing on 7.
+pub fn answer_line(line: &[u8], out: &mut [u8]) -> u8
     ensures { λ r. ⌜ (r ≡ statusIn (length (now (out .entry))) (now (line .entry))) × (now (out .exit) ≡ answered (now (line .entry)) (now (out .entry))) ⌝ }
 {
     if out.len() < 19 {
         return 7;
     }
-    let a = answer_of(digits, parity, line);
-    written::write(capitals, a.status, a.flags, a.steps, a.r, a.s, out);
-    a.status
-}
-
-pub fn answer_line(line: &[u8], out: &mut [u8]) -> u8
-    ensures { λ r. ⌜ (r ≡ statusIn (length (now (out .entry))) (now (line .entry))) × (now (out .exit) ≡ answered (now (line .entry)) (now (out .entry))) ⌝ }
-{
     let digits = digits::digit_table();
     let capitals = digits::capital_table();
-    let parity = flags::parity::parity_table();
-    answer_by(&digits, &capitals, &parity, line, out)
+    let read = fields::read_fields(&digits, line);
+    write_answer(&capitals, read, out)
 }

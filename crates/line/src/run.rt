@@ -2,12 +2,11 @@
 ghost use mathlib.Core.Path.{_≡_};
 ghost use Prim.Native.Nat.{_/_};
 ghost use lib.ListN.{length};
-ghost use Rattle.flags.specs.Parity.{ParityTable};
 ghost use Rattle.text.specs.Digits.{DigitTable, CapitalTable};
 ghost use Rattle.line.specs.Run.{nextOf, done, runOf};
 use crate::one;
 use text::digits;
-use text::lines;
+use text::found;
 
 pub struct Ran {
     pub lines: usize,
@@ -30,36 +29,23 @@ fn next_start(from: usize, end: usize, length: usize, at_end: bool) -> usize
 
 // Each answer goes in at its own place: the part of the answer bytes from 19 times the line's number
 // is lent to the one-line writer.
-fn run_by(
-    digits: &[u8; 256],
-    capitals: &[u8; 16],
-    parity: &[u8; 256],
-    text: &[u8],
-    out: &mut [u8],
-    at_end: bool,
-) -> Ran
+fn run_by(digits: &[u8; 256], capitals: &[u8; 16], text: &[u8], out: &mut [u8], at_end: bool) -> Ran
     requires { ⌜ DigitTable (now digits) ⌝ }
     requires { ⌜ CapitalTable (now capitals) ⌝ }
-    requires { ⌜ ParityTable (now parity) ⌝ }
     ensures { λ r. ⌜ done (now (out .exit)) (r .lines) (r .used) ≡ runOf (length (now (out .entry)) / 19) «at_end» (now (text .entry)) (now (out .entry)) ⌝ }
 {
     let room = out.len() / 19;
     let mut answered = 0;
     let mut used = 0;
     while answered < room {
-        let end = lines::line_end(text, used);
-        let next = next_start(used, end, text.len(), at_end);
+        let line = found::read_at(digits, text, used);
+        let next = next_start(used, line.end, text.len(), at_end);
         if next == used {
             break;
         }
         let at = answered * 19;
-        one::answer_by(
-            digits,
-            capitals,
-            parity,
-            &text[used..end],
-            &mut out[at..at + 19],
-        );
+        let read = line.read;
+        one::write_answer(capitals, read, &mut out[at..at + 19]);
         answered += 1;
         used = next;
     }
@@ -74,6 +60,5 @@ pub fn run(text: &[u8], out: &mut [u8], at_end: bool) -> Ran
 {
     let digits = digits::digit_table();
     let capitals = digits::capital_table();
-    let parity = flags::parity::parity_table();
-    run_by(&digits, &capitals, &parity, text, out, at_end)
+    run_by(&digits, &capitals, text, out, at_end)
 }

@@ -1,3 +1,4 @@
+pub mod FoundLaws
 pub mod Held
 pub mod LineLaws
 pub mod ReadBack

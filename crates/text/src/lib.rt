@@ -2,5 +2,6 @@
 // where lines end. Nothing here knows an operation.
 pub mod digits;
 pub mod fields;
+pub mod found;
 pub mod lines;
 pub mod written;

@@ -8,8 +8,7 @@ use Rattle.answer.proofs.ask.ask.Tie as tie
 answer-request-requires : tie.Need-answer-request-requires
 answer-request-requires c κs =
     let at = c .before in
-    let start = at .before .before .before in
-    (start .pre, admitted-in-range _ _ _ _ _ (at .before .before .judge .ensures) (at .request .given .1))
+    admitted-in-range _ _ _ _ _ (at .before .before .judge .ensures) (at .request .given .1)
 
 pub ask-spec : {M : Type 1} → statement M
 ask-spec =

@@ -6,17 +6,17 @@ use Rattle.answer.proofs.ask.divided.Tie as tie
 
 byte : tie.Need-returns
 byte c =
-    let at = c .before .before in
-    let start = at .before .before in
+    let at = c .before .before .before in
+    let start = at .before .before .before in
     let a = start .args in
-    quotient-byte (a .mode) (a .x) (a .y) (a .flags) (at .enum-told .given .1) (start .pre .1 .0) (start .pre .1 .1) (c .before .div8 .ensures) (c .of-divided8 .ensures)
+    quotient-byte (a .mode) (a .x) (a .y) (a .flags) (at .enum-told .given .1) (start .pre .0) (start .pre .1) (c .before .div8 .ensures) (c .of-divided8 .ensures)
 
 word : tie.Need-returns-2
 word c =
-    let at = c .before .before in
-    let a = at .before .before .args in
+    let at = c .before .before .before in
+    let a = at .before .before .before .args in
     quotient-word (a .mode) (a .x) (a .y) (a .flags) (at .enum-told2 .given .1) (c .before .div16 .ensures) (c .of-divided16 .ensures)
 
 pub divided-spec : {M : Type 1} → statement M
 divided-spec =
-    tie.close (tie.spec (λ c. search needs) (λ c. search needs) (λ c. search needs) (λ c κs. search needs) (λ c κs. search needs) (λ c. search needs) (λ c κs. search needs) (λ c κs. search needs) byte word)
+    tie.close (tie.spec (λ c κs. search needs) (λ c. search needs) (λ c. search needs) (λ c. search needs) (λ c κs. search needs) (λ c κs. search needs) (λ c. search needs) (λ c κs. search needs) (λ c κs. search needs) byte word)

@@ -1,0 +1,51 @@
+// A line of a text, found and read.
+ghost use mathlib.Core.Path.{_≡_};
+ghost use Prim.Native.Nat.{_+_, _≤_};
+ghost use lib.ListN.{length, drop};
+ghost use Rattle.text.specs.Digits.{DigitTable};
+ghost use Rattle.text.specs.Fields.{readOf};
+ghost use Rattle.text.specs.Lines.{lineLength, lineAt};
+use crate::fields;
+use crate::fields::Read;
+use crate::lines;
+
+pub struct Found {
+    pub read: Read,
+    pub end: usize,
+}
+
+// The line feed is looked for byte by byte, and then the line is read.
+fn sought(table: &[u8; 256], text: &[u8], from: usize) -> Found
+    requires { ⌜ DigitTable (now table) ⌝ }
+    requires { ⌜ from ≤ length (now text) ⌝ }
+    ensures { λ r. ⌜ (r .read ≡ readOf (lineAt (now (text .entry)) from)) × (r .end ≡ from + lineLength (drop from (now (text .entry)))) × (r .end ≤ length (now (text .entry))) ⌝ }
+{
+    let end = lines::line_end(text, from);
+    Found {
+        read: fields::read_fields(table, &text[from..end]),
+        end,
+    }
+}
+
+// Where 20 digits stand before a line feed no other is looked for: a line feed is no digit. Nearly every
+// line of a good text is of this kind.
+pub fn read_at(table: &[u8; 256], text: &[u8], from: usize) -> Found
+    requires { ⌜ DigitTable (now table) ⌝ }
+    requires { ⌜ from ≤ length (now text) ⌝ }
+    ensures { λ r. ⌜ (r .read ≡ readOf (lineAt (now (text .entry)) from)) × (r .end ≡ from + lineLength (drop from (now (text .entry)))) × (r .end ≤ length (now (text .entry))) ⌝ }
+{
+    if text.len() - from < 21 {
+        return sought(table, text, from);
+    }
+    if text[from + 20] != b'\n' {
+        return sought(table, text, from);
+    }
+    let read = fields::read_fields(table, &text[from..from + 20]);
+    if let Read::Fields(_) = read {
+        return Found {
+            read,
+            end: from + 20,
+        };
+    }
+    sought(table, text, from)
+}
