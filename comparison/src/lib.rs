@@ -1,0 +1,19 @@
+//! The port and MartyPC's own Rust, asked the same.
+//!
+//! Both are called as functions, so that nothing between them can hide a difference. The port is the
+//! static library that `./build` makes from proved code; MartyPC's Rust is the crate `oracle`. This
+//! is a crate of its own, so that the oracle can be built where the port is not.
+
+pub mod asked;
+pub mod differences;
+pub mod divides;
+pub mod form;
+pub mod lines;
+pub mod plan;
+pub mod section;
+pub mod sides;
+pub mod tally;
+
+mod bytes;
+mod judged;
+mod words;

@@ -1,0 +1,24 @@
+//! The sections of a comparison, in the order in which they run.
+
+use crate::form::Form;
+use crate::lines::sections as lines;
+use crate::section::Section;
+use crate::{bytes, judged, words};
+
+pub fn sections(form: Form) -> Vec<Section> {
+    vec![
+        bytes::alu(form),
+        bytes::multiply(form),
+        bytes::divide(form),
+        bytes::adjusts(form),
+        bytes::aad(form),
+        words::at_edges(),
+        words::drawn(form),
+        judged::ops_and_modes(form),
+        judged::limits(form),
+        lines::damaged(form),
+        lines::rooms(form),
+        lines::runs(form),
+        lines::pieces(form),
+    ]
+}

@@ -1,0 +1,74 @@
+//! The two sides, each as a function from a raw request to the same record.
+
+use crate::asked::Asked;
+use hatchyarn::raw;
+pub use hatchyarn::raw::Numbers;
+
+/// A side as a value, so that a test can put a wrong one in place of the port.
+pub type Side = fn(Asked) -> Numbers;
+
+/// The port, through the static library.
+pub fn ours(asked: Asked) -> Numbers {
+    raw::ask(asked.op, asked.mode, asked.flags, asked.x, asked.y)
+}
+
+/// MartyPC's Rust as it stands. It judges nothing, so statuses 3, 4 and 5 are the oracle's.
+pub fn theirs(asked: Asked) -> Numbers {
+    match asked.judged() {
+        Ok(request) => {
+            let given = oracle::answer(&request);
+            Numbers {
+                status: if given.refused { 6 } else { 0 },
+                flags: given.flags,
+                steps: given.steps,
+                r: given.r,
+                s: given.s,
+            }
+        }
+        Err(fault) => refused(fault.status()),
+    }
+}
+
+/// What the scope asks for: as the Rust, but for the intended differences.
+pub fn asked_for(asked: Asked) -> Numbers {
+    let given = theirs(asked);
+    if given.status == 6 {
+        return Numbers {
+            flags: asked.flags,
+            ..given
+        };
+    }
+    given
+}
+
+/// A status with zeros after it.
+pub fn refused(status: u8) -> Numbers {
+    Numbers {
+        status,
+        flags: 0,
+        steps: 0,
+        r: 0,
+        s: 0,
+    }
+}
+
+/// The names of the fields in which two answers differ.
+pub fn fields_apart(ours: &Numbers, theirs: &Numbers) -> String {
+    let fields = [
+        ("status", ours.status != theirs.status),
+        ("flags", ours.flags != theirs.flags),
+        ("steps", ours.steps != theirs.steps),
+        ("R", ours.r != theirs.r),
+        ("S", ours.s != theirs.s),
+    ];
+    let apart: Vec<&str> = fields.iter().filter(|f| f.1).map(|f| f.0).collect();
+    apart.join(", ")
+}
+
+/// The 18 digits of an answer.
+pub fn digits(given: &Numbers) -> String {
+    format!(
+        "{:02X}{:04X}{:04X}{:04X}{:04X}",
+        given.status, given.flags, given.steps, given.r, given.s
+    )
+}

@@ -1,0 +1,89 @@
+//! The plan meets what it is meant to meet, and the model says what the scope says.
+
+use comparison::asked::Asked;
+use comparison::form::Form;
+use comparison::lines::model::{status, Model};
+use comparison::plan;
+use comparison::sides::ours;
+use comparison::tally::Tally;
+use oracle::request::Operation;
+
+const QUICK: Form = Form {
+    full: false,
+    seed: 1,
+};
+
+/// Most drawn divides are accepted, and many of them have a quotient at an end of its range.
+#[test]
+fn drawn_divides_are_worth_asking() {
+    let is_divide = |operation: &Operation| matches!(operation, Operation::Divide(_));
+    let operations: Vec<Operation> = Operation::all().filter(is_divide).collect();
+    let (mut tally, mut draw) = (Tally::new(ours), QUICK.draw(0, 0));
+    for _ in 0..100_000 {
+        tally.hold(Asked::from(draw.request(&operations)));
+    }
+    let divides = tally.divides;
+    assert_eq!(divides.accepted + divides.refused, 100_000);
+    assert!(divides.accepted > 75_000, "{divides}");
+    assert!(divides.at_end > 20_000, "{divides}");
+    assert!(divides.refused > 10_000, "{divides}");
+}
+
+#[test]
+fn the_full_form_has_all_flag_sets_once() {
+    let full = Form {
+        full: true,
+        seed: 1,
+    };
+    let sets = full.flag_sets(&mut full.draw(0, 0));
+    assert_eq!((sets.len(), sets[0], sets[63]), (64, 0x0000, 0x08D5));
+    assert!(sets.windows(2).all(|pair| pair[0] < pair[1]));
+}
+
+/// Neither threads nor a second run change what is asked.
+#[test]
+fn threads_change_nothing() {
+    let sections = plan::sections(QUICK);
+    let edges = &sections[5];
+    let (one, two) = (
+        edges.run(1, &Tally::new(ours)),
+        edges.run(2, &Tally::new(ours)),
+    );
+    assert_eq!(one.compared, 694_408);
+    assert_eq!((one.compared, one.intended), (two.compared, two.intended));
+}
+
+#[test]
+fn the_model_answers_the_session_of_the_scope() {
+    let text = b"11000000000000070002\n110200000000FF800001\n";
+    let model = Model::of(text, false);
+    assert_eq!(model.answers, b"000001005100030001\n060000005F00000000\n");
+    assert_eq!(model.within(37), (1, 21));
+    assert_eq!(model.within(38), (2, 42));
+    assert_eq!(model.within(18), (0, 0));
+}
+
+#[test]
+fn the_model_takes_a_tail_at_the_end_alone() {
+    let model = |text: &[u8], at_end| Model::of(text, at_end).ends;
+    assert_eq!(model(b"a\n\nb", false), [2, 3]);
+    assert_eq!(model(b"a\n\nb", true), [2, 3, 4]);
+    assert_eq!(model(b"a\n", true), [2]);
+    assert_eq!(model(b"", true), []);
+}
+
+#[test]
+fn the_model_has_the_order_of_the_table() {
+    for (line, expected) in [
+        ("", 1),
+        ("FFFF000000000007000g", 2),
+        ("0DFFFFFFFFFFFFFFFFFF", 3),
+        ("0008FFFFFFFFFFFFFFFF", 4),
+        ("00000002000000000000", 5),
+        ("11000000000000000000", 6),
+        ("11000000000000070002", 0),
+    ] {
+        assert_eq!(status(line.as_bytes(), 19), expected, "{line}");
+        assert_eq!(status(line.as_bytes(), 18), 7, "{line}");
+    }
+}
