@@ -5,8 +5,11 @@
 //! is a crate of its own, so that the oracle can be built where the port is not.
 
 pub mod asked;
+pub mod bench;
+pub mod careful;
 pub mod differences;
 pub mod divides;
+pub mod filter;
 pub mod form;
 pub mod lines;
 pub mod plan;

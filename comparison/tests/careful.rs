@@ -1,0 +1,85 @@
+//! The Rust that the port is timed beside gives the scope's answers, or its time would mean nothing.
+
+use comparison::asked::Asked;
+use comparison::form::Form;
+use comparison::lines::model::Model;
+use comparison::sides::asked_for;
+use comparison::{careful, filter};
+use oracle::draw::Draw;
+use oracle::request::Operation;
+use oracle::{edges, malformed};
+use std::convert::Infallible;
+use std::io::Read;
+
+fn hold(asked: Asked) {
+    let given = careful::ask(asked.op, asked.mode, asked.flags, asked.x, asked.y);
+    assert_eq!(given, asked_for(asked), "{}", asked.line());
+}
+
+#[test]
+fn ask_gives_the_answers_of_the_scope() {
+    for operation in Operation::all() {
+        let mut take = |request| {
+            hold(Asked::from(request));
+            Ok::<(), Infallible>(())
+        };
+        let Ok(()) = edges::each(operation, &mut take);
+    }
+}
+
+#[test]
+fn ask_judges_as_the_oracle_does() {
+    let mut draw = Draw::new(1);
+    for op_mode in 0..=0xFFFF_u16 {
+        let [op, mode] = op_mode.to_be_bytes();
+        for narrow in [0xF, 0xFF, 0x1FF, 0x1_FFFF, u32::MAX] {
+            hold(Asked {
+                op,
+                mode,
+                flags: draw.bits() as u16 & draw.pick(&[0x08D5, 0xFFFF]),
+                x: draw.bits() as u32 & narrow,
+                y: draw.bits() as u16 & narrow as u16,
+            });
+        }
+    }
+}
+
+/// Hands over a few bytes at a time, so that lines lie across the ends of reads.
+struct Slow<'a>(&'a [u8], Draw);
+
+impl Read for Slow<'_> {
+    fn read(&mut self, room: &mut [u8]) -> std::io::Result<usize> {
+        let length = room.len().min(1 + self.1.below(100) as usize);
+        self.0.read(&mut room[..length])
+    }
+}
+
+fn filtered(input: impl Read) -> Vec<u8> {
+    let mut answers = Vec::new();
+    filter::run(input, &mut answers).unwrap();
+    answers
+}
+
+#[test]
+fn filter_answers_as_the_model() {
+    let mut text = Vec::new();
+    let operations: Vec<Operation> = Operation::all().collect();
+    let mut draw = Form {
+        full: false,
+        seed: 1,
+    }
+    .draw(0, 0);
+    for line in malformed::lines().into_iter().cycle().take(5_000) {
+        text.extend(draw.request(&operations).to_line());
+        text.extend(line);
+        text.push(b'\n');
+    }
+    text.extend(vec![b'0'; 200_000]);
+    for tail in [&b""[..], b"\n", b"\n1100", b"\n11000000000000070002"] {
+        let text = [&text, tail].concat();
+        let answers = Model::of(&text, true).answers;
+        assert!(filtered(&text[..]) == answers);
+        assert!(filtered(Slow(&text, Draw::new(1))) == answers);
+    }
+    assert_eq!(filtered(&b""[..]), b"");
+}
