@@ -103,10 +103,11 @@ fn timed(section: &Section, threads: usize, sum: &Tally) -> Tally {
 
 fn conclude(form: Form, sum: &Tally) -> ExitCode {
     for (entry, count) in LIST.iter().zip(sum.intended) {
+        let count = grouped(count);
+        println!("compare: {count} differ as intended: {}", entry.name);
         println!(
-            "compare: {} differ as intended: {}",
-            grouped(count),
-            entry.name
+            "    the scope: {}; MartyPC {}; Hatchyarn {}",
+            entry.scope_says, entry.rust_does, entry.ours_does
         );
     }
     for difference in &sum.shown {
