@@ -3,7 +3,7 @@
 use comparison::asked::Asked;
 use comparison::differences::LIST;
 use comparison::form::Form;
-use comparison::lines::held::{self, Lent};
+use comparison::lines::held::{self, Case, Lent};
 use comparison::lines::model::Model;
 use comparison::plan;
 use comparison::sides::{ours, Numbers, Side};
@@ -95,17 +95,17 @@ const TEXT: &[u8] = b"11000000000000070002\n\n110200000000ff800001";
 
 fn run_with(wrong: impl FnOnce(&mut Lent, &mut Ran)) -> u64 {
     let mut tally = Tally::new(ours);
-    let model = Model::of(TEXT, true);
-    held::run(
-        &mut tally,
-        (TEXT, &model),
-        (50, true),
-        |text, lent, at_end| {
-            let mut ran = raw::run(text, lent.bytes(), at_end);
-            wrong(lent, &mut ran);
-            ran
-        },
-    );
+    let case = Case {
+        text: TEXT,
+        model: &Model::of(TEXT, true),
+        room: 50,
+        at_end: true,
+    };
+    held::run(&mut tally, case, |case, lent| {
+        let mut ran = raw::run(case.text, lent.bytes(), case.at_end);
+        wrong(lent, &mut ran);
+        ran
+    });
     tally.unlisted
 }
 

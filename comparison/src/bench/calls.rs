@@ -22,9 +22,11 @@ const MOST_SHIFTED: u32 = 31;
 pub fn heading() -> String {
     let calls = INPUTS * PASSES;
     format!(
-        "{INPUTS} drawn inputs for each row, counts of shifts 0 to {MOST_SHIFTED}, divides mostly accepted; \
-         {ROUNDS} rounds of {calls} calls, the two in turn; nanoseconds a call, median (lowest to highest).\n\n\
-         | operation | bits | Hatchyarn | MartyPC's Rust | ratio |\n|---|---|---|---|---|"
+        "{INPUTS} drawn inputs for each row, counts of shifts 0 to {MOST_SHIFTED}, divides mostly \
+         accepted; {ROUNDS} rounds of {calls} calls, the two in turn; nanoseconds a call, median \
+         (lowest to highest).\n\n\
+         | operation | bits | Hatchyarn | MartyPC's Rust | ratio |\n\
+         |---|---|---|---|---|"
     )
 }
 

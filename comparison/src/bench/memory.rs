@@ -48,3 +48,15 @@ fn field(child: &Child, name: &str) -> io::Result<String> {
     line.map(|value| value.trim().to_string())
         .ok_or_else(|| io::Error::other(format!("{path} has no {name}")))
 }
+
+#[cfg(test)]
+mod tests {
+    use super::*;
+
+    #[test]
+    fn a_program_that_copies_holds_some_memory_but_not_its_input() {
+        let mut input = io::repeat(b'0').take(100_000_000);
+        let peak = peak(Path::new("cat"), &mut input).unwrap();
+        assert!((1..50_000).contains(&peak), "{peak} KiB");
+    }
+}

@@ -35,17 +35,22 @@ impl Lent {
     }
 }
 
+/// A run to be held: a text with its model, and how it is run.
+#[derive(Clone, Copy, Debug)]
+pub struct Case<'a> {
+    pub text: &'a [u8],
+    pub model: &'a Model,
+    pub room: usize,
+    pub at_end: bool,
+}
+
 /// Holds one run over a text. `act` is what runs, so that a test can run something wrong.
-pub fn run(
-    tally: &mut Tally,
-    (text, model): (&[u8], &Model),
-    (room, at_end): (usize, bool),
-    act: impl FnOnce(&[u8], &mut Lent, bool) -> Ran,
-) {
+pub fn run(tally: &mut Tally, case: Case, act: impl FnOnce(Case, &mut Lent) -> Ran) {
+    let Case { room, at_end, .. } = case;
     let mut lent = Lent::new(room);
-    let ran = act(text, &mut lent, at_end);
-    let (lines, used) = model.within(room);
-    let expected = Lent::new(room).with(&model.answers[..lines * ANSWER]);
+    let ran = act(case, &mut lent);
+    let (lines, used) = case.model.within(room);
+    let expected = Lent::new(room).with(&case.model.answers[..lines * ANSWER]);
     tally.compared += 1;
     let wrong = wrong_in(&[
         ("lines", ran.lines != lines),
@@ -53,7 +58,7 @@ pub fn run(
         ("bytes", lent.whole != expected),
     ]);
     if let Some(wrong) = wrong {
-        let text = shown(text);
+        let text = shown(case.text);
         tally.fail(|| {
             format!("run over {text} in a room of {room}, at_end {at_end}: {wrong} differ")
         });

@@ -1,12 +1,12 @@
 //! The sections over text.
 
-use super::held::{self, shown};
+use super::held::{self, shown, Case, Lent};
 use super::model::{Model, ANSWER};
 use super::texts::Texts;
 use crate::form::Form;
 use crate::section::Section;
 use crate::tally::Tally;
-use hatchyarn::raw;
+use hatchyarn::raw::{self, Ran};
 use oracle::draw::Draw;
 use oracle::malformed;
 use oracle::request::REQUEST_DIGITS;
@@ -80,15 +80,20 @@ pub fn runs(form: Form) -> Section {
             let larger = (0..8).map(|_| draw.below(300) as usize);
             let rooms: Vec<usize> = (0..=SMALL_ROOMS).chain(larger).collect();
             for room in rooms {
-                held::run(
-                    tally,
-                    (&text, &model),
-                    (room, at_end),
-                    |text, lent, at_end| raw::run(text, lent.bytes(), at_end),
-                );
+                let case = Case {
+                    text: &text,
+                    model: &model,
+                    room,
+                    at_end,
+                };
+                held::run(tally, case, run);
             }
         }
     })
+}
+
+fn run(case: Case, lent: &mut Lent) -> Ran {
+    raw::run(case.text, lent.bytes(), case.at_end)
 }
 
 /// A part is a text, handed over piece by piece as a program reads it.
