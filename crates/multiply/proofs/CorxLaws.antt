@@ -21,41 +21,42 @@ use Rattle.multiply.specs.Corx.{Halves, corx, CorxRound, added, corxRoun
 
 -- ---- a round of the code is one of the definition
 
-abbrev made : Step → Step → ℕ → CorxRound
-made upper lower steps = record { tmpa = upper .value; tmpc = lower .value; carry = lower .carry; steps = steps }
+chosen : (x : Bool) (b : ℕ) → cond x b 0 ≡ b * bit x
+chosen true b = omega arith
+chosen false b = omega arith
 
-module _ (n b : ℕ) (s : CorxRound) {upper lower : Step} (el : lower ≡ right n (upper .carry) (s .tmpc)) where
-  -- both shifts, of a sum whose upper bit enters above x
-  shifted : (enters : Bool) (x : ℕ) {steps : ℕ} → upper ≡ right n enters x → bit enters * 2 ^ n + x ≡ added b s → x % 2 ≡ added b s % 2
-      → steps ≡ s .steps + 5 + bit (s .carry) → made upper lower steps ≡ corxRound n b s
-  unfolding corxRound right
-  shifted enters x eu sum odd paid =
-      let digit : bit (upper .carry) ≡ added b s % 2 = ap (λ (r : Step). bit (r .carry)) eu ∙ bit-isSet 0 x ∙ ap (λ (y : ℕ). y % 2) (omega arith) ∙ odd in
-      let above : upper .value ≡ added b s / 2 = ap (λ (r : Step). r .value) eu ∙ ap (λ (y : ℕ). y / 2) sum in
+-- what is added is at most b, so it fits where b does
+pub addend-le : (b : ℕ) (x : Bool) → b * bit x ≤ b
+addend-le b true = omega arith
+addend-le b false = omega arith
+
+-- the sum and both shifts; the sum's carry enters above it
+module _ (n b : ℕ) (s : CorxRound) {sum : ResultCoa} {upper lower : Step} (hn : 0 < n) (ha : s .tmpa < 2 ^ n) (hb : b < 2 ^ n) where
+  pub rounded : sum ≡ add n (s .tmpa) (b * bit (s .carry)) → upper ≡ right n (sum .carry) (sum .result) → lower ≡ right n (upper .carry) (s .tmpc)
+      → _≡_ {A = CorxRound} (record { tmpa = upper .value; tmpc = lower .value; carry = lower .carry; steps = s .steps + 5 + bit (s .carry) }) (corxRound n b s)
+  unfolding adc corxRound right
+  rounded es eu el =
+      let split = parts (leb (2 ^ n) u) refl in
+      let whole : bit (sum .carry) * 2 ^ n + sum .result ≡ added b s = ap (λ (r : ResultCoa). bit (r .carry) * 2 ^ n + r .result) es ∙ split .0 ∙ is-u in
+      let odd : sum .result % 2 ≡ added b s % 2 = ap (λ (r : ResultCoa). r .result % 2) es ∙ split .1 ∙ ap (λ (y : ℕ). y % 2) is-u in
+      let above : upper .value ≡ added b s / 2 = ap (λ (r : Step). r .value) eu ∙ ap (λ (y : ℕ). y / 2) whole in
+      let digit : bit (upper .carry) ≡ added b s % 2 = ap (λ (r : Step). bit (r .carry)) eu ∙ bit-isSet 0 (sum .result) ∙ ap (λ (y : ℕ). y % 2) (omega arith) ∙ odd in
       let below : lower .value ≡ (added b s % 2 * 2 ^ n + s .tmpc) / 2 = ap (λ (r : Step). r .value) el ∙ ap (λ (d : ℕ). (d * 2 ^ n + s .tmpc) / 2) digit in
-      λ i. record { tmpa = above i; tmpc = below i; carry = el i .carry; steps = paid i }
-
-  pub adds : {sum : ResultCoa} → 0 < n → s .tmpa < 2 ^ n → b < 2 ^ n → s .carry ≡ true → sum ≡ add n (s .tmpa) b → upper ≡ right n (sum .carry) (sum .result)
-      → made upper lower (s .steps + 6) ≡ corxRound n b s
-  unfolding adc
-  adds {sum} hn ha hb on es eu =
-      shifted (sum .carry) (sum .result) eu
-      (ap (λ (r : ResultCoa). bit (r .carry) * 2 ^ n + r .result) es ∙ parts (leb (2 ^ n) u) refl .0 ∙ sym whole)
-      (ap (λ (r : ResultCoa). r .result % 2) es ∙ parts (leb (2 ^ n) u) refl .1 ∙ ap (λ (y : ℕ). y % 2) (sym whole))
-      (rw on (omega arith))
+      λ i. record { tmpa = above i; tmpc = below i; carry = el i .carry; steps = s .steps + 5 + bit (s .carry) }
     where
       u : ℕ
-      u = s .tmpa + b + 0
+      u = s .tmpa + b * bit (s .carry) + 0
 
-      whole : added b s ≡ u
-      whole = rw on (omega arith)
+      is-u : u ≡ added b s
+      is-u = rw (chosen (s .carry) b) (omega arith)
 
       parts : (t : Bool) → leb (2 ^ n) u ≡ t → (bit t * 2 ^ n + u % 2 ^ n ≡ u) × (u % 2 ^ n % 2 ≡ u % 2)
-      parts true e = let f = rest-large u (2 ^ n) (omega arith) (leb-true (2 ^ n) u e) in let m = top-twice n hn in (omega arith, omega arith)
+      parts true e =
+          let most = addend-le b (s .carry) in
+          let f = rest-large u (2 ^ n) (omega arith) (leb-true (2 ^ n) u e) in
+          let m = top-twice n hn in
+          (omega arith, omega arith)
       parts false e = let f = rest-small u (2 ^ n) (leb-false (2 ^ n) u e) in (omega arith, ap (λ (y : ℕ). y % 2) (sym f))
-
-  pub adds-none : s .carry ≡ false → upper ≡ right n false (s .tmpa) → made upper lower (s .steps + 5) ≡ corxRound n b s
-  adds-none off eu = shifted false (s .tmpa) eu (rw off (omega arith)) (rw off (ap (λ (y : ℕ). y % 2) (omega arith))) (rw off (omega arith))
 
 -- ---- the walk
 
@@ -114,10 +115,6 @@ ones-bit : (x : Bool) → ones (bit x) ≡ bit x
 unfolding ones
 ones-bit true = refl
 ones-bit false = refl
-
-chosen : (x : Bool) (b : ℕ) → cond x b 0 ≡ b * bit x
-chosen true b = omega arith
-chosen false b = omega arith
 
 module _ (n b m start k j p h q : ℕ) (s : CorxRound) (count : suc j + k ≡ n) (whole : m ≡ (h * 2 + bit (s .carry)) * 2 ^ k + q) (used : q < 2 ^ k)
     (low : s .tmpc ≡ p * 2 ^ suc j + h) (few : p < 2 ^ k) (rest : h < 2 ^ suc j) (product : s .tmpa * 2 ^ k + p ≡ b * q)

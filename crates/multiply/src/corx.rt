@@ -22,30 +22,21 @@ pub struct CorxRound8 {
     pub steps: u16,
 }
 
-// A round, without the jump back. The multiplier's bit in the carry says whether to add.
+// A round, without the jump back. The multiplier's bit in the carry says whether to add. A branch on
+// it would be guessed wrong half the time, so it is multiplied by.
 fn corx_round8(from: CorxRound8, tmpb: u8) -> CorxRound8
     requires { ⌜ from .steps < 2000 ⌝ }
     ensures { λ r. ⌜ round8 r ≡ corxRound 8 tmpb (round8 from) ⌝ }
 {
-    if from.carry {
-        let sum = addition::alu_add8(from.tmpa, tmpb);
-        let upper = step::right8(sum.carry, sum.result);
-        let lower = step::right8(upper.carry, from.tmpc);
-        CorxRound8 {
-            tmpa: upper.value,
-            tmpc: lower.value,
-            carry: lower.carry,
-            steps: from.steps + 6,
-        }
-    } else {
-        let upper = step::right8(false, from.tmpa);
-        let lower = step::right8(upper.carry, from.tmpc);
-        CorxRound8 {
-            tmpa: upper.value,
-            tmpc: lower.value,
-            carry: lower.carry,
-            steps: from.steps + 5,
-        }
+    let addend = tmpb * (from.carry as u8);
+    let sum = addition::alu_add8(from.tmpa, addend);
+    let upper = step::right8(sum.carry, sum.result);
+    let lower = step::right8(upper.carry, from.tmpc);
+    CorxRound8 {
+        tmpa: upper.value,
+        tmpc: lower.value,
+        carry: lower.carry,
+        steps: from.steps + 5 + from.carry as u16,
     }
 }
 
@@ -90,30 +81,21 @@ pub struct CorxRound16 {
     pub steps: u16,
 }
 
-// A round, without the jump back. The multiplier's bit in the carry says whether to add.
+// A round, without the jump back. The multiplier's bit in the carry says whether to add. A branch on
+// it would be guessed wrong half the time, so it is multiplied by.
 fn corx_round16(from: CorxRound16, tmpb: u16) -> CorxRound16
     requires { ⌜ from .steps < 2000 ⌝ }
     ensures { λ r. ⌜ round16 r ≡ corxRound 16 tmpb (round16 from) ⌝ }
 {
-    if from.carry {
-        let sum = addition::alu_add16(from.tmpa, tmpb);
-        let upper = step::right16(sum.carry, sum.result);
-        let lower = step::right16(upper.carry, from.tmpc);
-        CorxRound16 {
-            tmpa: upper.value,
-            tmpc: lower.value,
-            carry: lower.carry,
-            steps: from.steps + 6,
-        }
-    } else {
-        let upper = step::right16(false, from.tmpa);
-        let lower = step::right16(upper.carry, from.tmpc);
-        CorxRound16 {
-            tmpa: upper.value,
-            tmpc: lower.value,
-            carry: lower.carry,
-            steps: from.steps + 5,
-        }
+    let addend = tmpb * (from.carry as u16);
+    let sum = addition::alu_add16(from.tmpa, addend);
+    let upper = step::right16(sum.carry, sum.result);
+    let lower = step::right16(upper.carry, from.tmpc);
+    CorxRound16 {
+        tmpa: upper.value,
+        tmpc: lower.value,
+        carry: lower.carry,
+        steps: from.steps + 5 + from.carry as u16,
     }
 }
 
