@@ -1,24 +1,22 @@
 -- Shifts and rotates over the width n: a step of the code is a step of the definition, and so are its repeats and the flags of the last.
 -- Assumes nothing.
 use mathlib.Core.Path.{_≡_, refl, sym, ap, _∙_}
-use mathlib.Core.Bool.{Bool, true, false, not, xor, Bool·beq}
+use mathlib.Core.Bool.{Bool, true, false, not, _&&_, cond, xor, Bool·beq}
 use Prim.Native.Nat.{ℕ, zero, suc, _+_, _-_, _*_, _/_, _%_, _^_, _≤_, _<_}
 use native.Mathlib.Nat.{mod-eq-of-lt}
 use native.Mathlib.Numerals.{add-one}
 use native.Mathlib.Omega.{arith}
 use lib.Bits.{bitAnd, bitOr, or-shifted}
 use lib.Dec.{eqb}
-use borrow.Author.Tests.{eq-eqb}
+use borrow.Author.Tests.{le-leb, lt-leb}
 use Rattle.flags.specs.Numbers.{bit, isSet, top, topSet}
 use Rattle.flags.proofs.Powers.{top-twice, rest-small, rest-large}
 use Rattle.flags.proofs.Masks.{mask-bit, mask-top, or-bit}
 use Rattle.flags.proofs.SignedLaws.{TopIs, top-is}
 use Rattle.flags.proofs.WordLaws.{bit-le}
 use Rattle.alu.specs.Result.{ResultCo, ResultCoa}
-use Rattle.alu.specs.Step.{Step, before, left, right, step, steps}
-use Rattle.alu.specs.Shift.{ofLast, leftO, rightO, withA, leftward, rightward, shl, shlAf}
-use Rattle.alu.specs.declared.step.Shift.{Shift}
-use Rattle.alu.specs.declared.step.Shift.the-variants.{Shl, Shr, Sar, Rol, Ror, Rcl, Rcr}
+use Rattle.alu.specs.Step.{Shift, Sar, Step, before, left, right, step, steps}
+use Rattle.alu.specs.Shift.{leftBy, rightBy, downBy, ofLast, leftO, rightO, carryOnly, withA, leftward, rightward, downward, shl, shlAf}
 
 module _ (n x : ℕ) (e : Bool) (hn : 0 < n) (hx : x < 2 ^ n) where
   pub left-is : _≡_ {A = Step} (record { value = bitOr (x * 2 % 2 ^ n) (bit e); carry = not (eqb (bitAnd x (top n)) 0) }) (left n e x)
@@ -55,35 +53,42 @@ module _ (n x : ℕ) (e : Bool) (hn : 0 < n) (hx : x < 2 ^ n) where
       shifted e =
           ap (λ (y : ℕ). bitOr y (x / 2)) (mod-eq-of-lt (fits e)) ∙ or-shifted (bit e) (n - 1) (x / 2) (let m = top-twice n hn in omega arith) ∙ sym (half e)
 
--- a step of the code, by the way that it took: r is what it made of s, and told says which shift it was
-module _ (n : ℕ) {shift : Shift} (s : Step) {r : Step} where
-  pub by-shl : shift ≡ Shl → r ≡ left n false (s .value) → r ≡ step n shift s
+-- a step of the code: what it lets enter is what the definition names
+module _ (n : ℕ) (s : Step) {back : Bool} {r : Step} where
+  pub left-step : (rotates through : Bool) → 0 < n → s .value < 2 ^ n → back ≡ cond through (s .carry) (not (eqb (bitAnd (s .value) (top n)) 0))
+      → r ≡ left n (rotates && back) (s .value) → r ≡ step n (leftBy rotates through) s
   unfolding step
-  by-shl told e = rw told e
+  left-step false through hn hs eb e = e
+  left-step true false hn hs eb e = e ∙ ap (λ (b : Bool). left n b (s .value)) (eb ∙ mask-top n (s .value) hn hs)
+  left-step true true hn hs eb e = e ∙ ap (λ (b : Bool). left n b (s .value)) eb
 
-  pub by-shr : shift ≡ Shr → r ≡ right n false (s .value) → r ≡ step n shift s
+  pub right-step : (through : Bool) → back ≡ cond through (s .carry) (not (eqb (bitAnd (s .value) 1) 0)) → r ≡ right n back (s .value) → r ≡ step n (rightBy through) s
   unfolding step
-  by-shr told e = rw told e
+  right-step false eb e = e ∙ ap (λ (b : Bool). right n b (s .value)) (eb ∙ mask-bit 0 (s .value))
+  right-step true eb e = e ∙ ap (λ (b : Bool). right n b (s .value)) eb
 
-  pub by-sar : shift ≡ Sar → r ≡ right n (not (eqb (bitAnd (s .value) (top n)) 0)) (s .value) → 0 < n → s .value < 2 ^ n → r ≡ step n shift s
-  unfolding step
-  by-sar told e hn hs = rw told (e ∙ ap (λ (b : Bool). right n b (s .value)) (mask-top n (s .value) hn hs))
+-- SAR leaves the sign as it is
+module _ (n x : ℕ) (hn : 0 < n) where
+  kept : topSet n (right n (topSet n x) x .value) ≡ topSet n x
+  unfolding right
+  kept = by (topSet n x) (top-is n x)
+    where
+      by : (s : Bool) → TopIs s (top n) x → topSet n ((bit s * 2 ^ n + x) / 2) ≡ s
+      by true h = let m = top-twice n hn in le-leb (top n) ((1 * 2 ^ n + x) / 2) (omega arith)
+      by false h = lt-leb (top n) ((0 * 2 ^ n + x) / 2) (omega arith)
 
-  pub by-rol : shift ≡ Rol → r ≡ left n (not (eqb (bitAnd (s .value) (top n)) 0)) (s .value) → 0 < n → s .value < 2 ^ n → r ≡ step n shift s
-  unfolding step
-  by-rol told e hn hs = rw told (e ∙ ap (λ (b : Bool). left n b (s .value)) (mask-top n (s .value) hn hs))
+stays : (n x : ℕ) (c : Bool) → 0 < n → (k : ℕ) → topSet n (steps n Sar k (before x c) .value) ≡ topSet n x
+unfolding step steps
+stays n x c hn zero = refl
+stays n x c hn (suc k) = kept n (steps n Sar k (before x c) .value) hn ∙ stays n x c hn k
 
-  pub by-ror : shift ≡ Ror → r ≡ right n (not (eqb (bitAnd (s .value) 1) 0)) (s .value) → r ≡ step n shift s
-  unfolding step
-  by-ror told e = rw told (e ∙ ap (λ (b : Bool). right n b (s .value)) (mask-bit 0 (s .value)))
-
-  pub by-rcl : shift ≡ Rcl → r ≡ left n (s .carry) (s .value) → r ≡ step n shift s
-  unfolding step
-  by-rcl told e = rw told e
-
-  pub by-rcr : shift ≡ Rcr → r ≡ right n (s .carry) (s .value) → r ≡ step n shift s
-  unfolding step
-  by-rcr told e = rw told e
+-- so a step of the code may let the first value's sign enter
+pub down-step : (n x : ℕ) (signed : Bool) (k : ℕ) {t r : Step} → 0 < n → x < 2 ^ n → t ≡ steps n (downBy signed) k (before x false)
+    → r ≡ right n (signed && not (eqb (bitAnd x (top n)) 0)) (t .value) → r ≡ step n (downBy signed) t
+unfolding step
+down-step n x false k hn hx et e = e
+down-step n x true k {t} hn hx et e =
+    e ∙ ap (λ (b : Bool). right n b (t .value)) (mask-top n x hn hx ∙ sym (ap (λ (s : Step). topSet n (s .value)) et ∙ stays n x false hn k))
 
 -- one step more
 pub again : (n : ℕ) (shift : Shift) (k : ℕ) (s : Step) {t r : Step} → t ≡ steps n shift k s → r ≡ step n shift t → r ≡ steps n shift (k + 1) s
@@ -103,30 +108,36 @@ none (suc k) flag e = absurd (omega arith)
 abbrev with-o : Step → Bool → ResultCo
 with-o s o = record { result = s .value; carry = s .carry; overflow = o }
 
-module _ (n : ℕ) (shift : Shift) (x count : ℕ) (c : Bool) {s : Step} (e : s ≡ steps n shift count (before x c)) where
-  pub left-o : (count ≡ 0 → ⊥) → 0 < n → s .value < 2 ^ n
-      → with-o s (not (Bool·beq (s .carry) (not (eqb (bitAnd (s .value) (top n)) 0)))) ≡ leftward n shift x count c
+module _ (n : ℕ) (shift : Shift) (x count : ℕ) (c : Bool) where
+  pub left-none : count ≡ 0 → with-o (before x c) false ≡ leftward n shift x count c
+  unfolding leftward steps
+  left-none h = rw h
+
+  pub right-none : count ≡ 0 → with-o (before x c) false ≡ rightward n shift x count c
+  unfolding rightward steps
+  right-none h = rw h
+
+module _ (n : ℕ) (shift : Shift) (x count : ℕ) (c : Bool) {k : ℕ} {s : Step} (e : s ≡ steps n shift k (before x c)) (all : k ≡ count) (h : count ≡ 0 → ⊥) (hn : 0 < n)
+    (hs : s .value < 2 ^ n) where
+  done : s ≡ steps n shift count (before x c)
+  done = e ∙ ap (λ (j : ℕ). steps n shift j (before x c)) all
+
+  pub left-o : with-o s (not (Bool·beq (s .carry) (not (eqb (bitAnd (s .value) (top n)) 0)))) ≡ leftward n shift x count c
   unfolding leftward xor
-  left-o h hn hs =
-      ap (with-o s) (ap (λ (b : Bool). not (Bool·beq (s .carry) b)) (mask-top n (s .value) hn hs) ∙ made count _ h) ∙ ap (leftO n count) e
+  left-o = ap (with-o s) (ap (λ (b : Bool). not (Bool·beq (s .carry) b)) (mask-top n (s .value) hn hs) ∙ made count _ h) ∙ ap (leftO n count) done
 
-  pub left-none : count ≡ 0 → with-o s (not (eqb count 0)) ≡ leftward n shift x count c
-  unfolding leftward
-  left-none h = ap (with-o s) (none count _ h) ∙ ap (leftO n count) e
-
-  pub right-o : (count ≡ 0 → ⊥) → 0 < n → s .value < 2 ^ n
-      → with-o s (not (Bool·beq (not (eqb (bitAnd (s .value) (top n)) 0)) (not (eqb (bitAnd (s .value) (2 ^ (n - 2))) 0)))) ≡ rightward n shift x count c
+  pub right-o : with-o s (not (Bool·beq (not (eqb (bitAnd (s .value) (top n)) 0)) (not (eqb (bitAnd (s .value) (2 ^ (n - 2))) 0)))) ≡ rightward n shift x count c
   unfolding rightward xor
-  right-o h hn hs =
+  right-o =
       ap (with-o s)
       (ap (λ (b : Bool). not (Bool·beq b (not (eqb (bitAnd (s .value) (2 ^ (n - 2))) 0)))) (mask-top n (s .value) hn hs)
       ∙ ap (λ (b : Bool). not (Bool·beq (topSet n (s .value)) b)) (mask-bit (n - 2) (s .value))
       ∙ made count _ h)
-      ∙ ap (rightO n count) e
+      ∙ ap (rightO n count) done
 
-  pub right-none : count ≡ 0 → with-o s (not (eqb count 0)) ≡ rightward n shift x count c
-  unfolding rightward
-  right-none h = ap (with-o s) (none count _ h) ∙ ap (rightO n count) e
+pub down-done : (n : ℕ) (shift : Shift) (x count : ℕ) {k : ℕ} {s : Step} → s ≡ steps n shift k (before x false) → k ≡ count → carryOnly s ≡ downward n shift x count
+unfolding downward
+down-done n shift x count e all = ap carryOnly (e ∙ ap (λ (j : ℕ). steps n shift j (before x false)) all)
 
 -- A of op 0C, on what SHL gave
 abbrev with-a : ResultCo → Bool → ResultCoa

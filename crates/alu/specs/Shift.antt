@@ -1,12 +1,24 @@
 -- The shifts and rotates of n bits: the steps of the full count, with the flags of the last one.
 -- Assumes nothing.
-use mathlib.Core.Bool.{Bool, false, xor}
+use mathlib.Core.Bool.{Bool, true, false, xor}
 use Prim.Native.Nat.{ℕ, zero, suc, _-_}
 use Rattle.flags.specs.Numbers.{isSet, topSet}
 use Rattle.alu.specs.Result.{ResultC, ResultCo, ResultCoa}
-use Rattle.alu.specs.Step.{Step, before, steps}
-use Rattle.alu.specs.declared.step.Shift.{Shift}
-use Rattle.alu.specs.declared.step.Shift.the-variants.{Shl, Shr, Sar, Rol, Ror, Rcl, Rcr}
+use Rattle.alu.specs.Step.{Shift, Shl, Shr, Sar, Rol, Ror, Rcl, Rcr, Step, before, steps}
+
+-- which one it is, of those that move the same way: by whether it rotates, whether through C, and whether it is signed
+abbrev pub leftBy : Bool → Bool → Shift
+leftBy false through = Shl
+leftBy true false = Rol
+leftBy true true = Rcl
+
+abbrev pub rightBy : Bool → Shift
+rightBy false = Ror
+rightBy true = Rcr
+
+abbrev pub downBy : Bool → Shift
+downBy false = Shr
+downBy true = Sar
 
 -- a flag of the last step; a count of 0 makes none, and the flag is false
 abbrev pub ofLast : ℕ → Bool → Bool

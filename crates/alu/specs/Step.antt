@@ -3,8 +3,9 @@
 use mathlib.Core.Bool.{Bool, false}
 use Prim.Native.Nat.{ℕ, zero, suc, _+_, _*_, _/_, _%_, _^_}
 use Rattle.flags.specs.Numbers.{bit, isSet, topSet}
-use Rattle.alu.specs.declared.step.Shift.{Shift}
-use Rattle.alu.specs.declared.step.Shift.the-variants.{Shl, Shr, Sar, Rol, Ror, Rcl, Rcr}
+
+pub data Shift : Type 0 where
+  Shl Shr Sar Rol Ror Rcl Rcr : Shift
 
 -- a value and the bit that last left it, which is C
 pub record Step : Type 0 where

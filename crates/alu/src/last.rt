@@ -1,101 +1,161 @@
-// What a whole shift or rotate answers: the value after the full count, with the flags of the last
-// step. Which flags those are is told by where the value moves.
+// A whole shift or rotate: as many single steps as the count says, with the flags of the last one.
+// Those that move the same way differ in what enters at the open end. Bools tell which, for the
+// compiler sees through a bool at a call, and an enum would leave a test there.
+ghost use mathlib.Core.Bool.{cond};
 ghost use mathlib.Core.Path.{_≡_};
-ghost use Rattle.alu.specs.Shift.{leftward, rightward, downward};
+ghost use Rattle.alu.specs.Shift.{leftBy, rightBy, downBy, leftward, rightward, downward};
 ghost use Rattle.alu.specs.Views.{c8, c16, co8, co16};
 use crate::result::ResultC8;
 use crate::result::ResultC16;
 use crate::result::ResultCo8;
 use crate::result::ResultCo16;
 use crate::step;
-use crate::step::Shift;
-use crate::step::Step8;
-use crate::step::Step16;
 use flags::width::Byte;
 use flags::width::Word;
 
-// SHL, ROL and RCL.
-pub fn leftward8(shift: Shift, value: u8, count: u8, carry: bool) -> ResultCo8
-    ensures { λ r. ⌜ co8 r ≡ leftward 8 shift value count carry ⌝ }
+// What a rotate takes in again: the bit that left a step before, which is C, or the one that leaves.
+fn again(through: bool, carry: bool, leaves: bool) -> bool
+    ensures { λ r. ⌜ r ≡ cond through carry leaves ⌝ }
 {
-    let last = step::all_steps8(shift, count, Step8 { value, carry });
+    if through { carry } else { leaves }
+}
+
+// SHL; where it rotates, ROL, or RCL if through C.
+pub fn leftward8(rotates: bool, through: bool, value: u8, count: u8, carry: bool) -> ResultCo8
+    ensures { λ r. ⌜ co8 r ≡ leftward 8 (leftBy rotates through) value count carry ⌝ }
+{
+    if count == 0 {
+        return ResultCo8 {
+            result: value,
+            carry,
+            overflow: false,
+        };
+    }
+    let mut result = value;
+    let mut last = carry;
+    for _ in 0..count {
+        let back = again(through, last, result & Byte::TOP != 0);
+        let made = step::left8(rotates & back, result);
+        result = made.value;
+        last = made.carry;
+    }
     ResultCo8 {
-        result: last.value,
-        carry: last.carry,
-        overflow: count != 0 && last.carry != (last.value & Byte::TOP != 0),
+        result,
+        carry: last,
+        overflow: last != (result & Byte::TOP != 0),
     }
 }
 
-// ROR and RCR.
-pub fn rightward8(shift: Shift, value: u8, count: u8, carry: bool) -> ResultCo8
-    ensures { λ r. ⌜ co8 r ≡ rightward 8 shift value count carry ⌝ }
+// ROR, or RCR if through C.
+pub fn rightward8(through: bool, value: u8, count: u8, carry: bool) -> ResultCo8
+    ensures { λ r. ⌜ co8 r ≡ rightward 8 (rightBy through) value count carry ⌝ }
 {
-    let last = step::all_steps8(shift, count, Step8 { value, carry });
+    if count == 0 {
+        return ResultCo8 {
+            result: value,
+            carry,
+            overflow: false,
+        };
+    }
+    let mut result = value;
+    let mut last = carry;
+    for _ in 0..count {
+        let back = again(through, last, result & 1 != 0);
+        let made = step::right8(back, result);
+        result = made.value;
+        last = made.carry;
+    }
     ResultCo8 {
-        result: last.value,
-        carry: last.carry,
-        overflow: count != 0
-            && (last.value & Byte::TOP != 0) != (last.value & (Byte::TOP >> 1) != 0),
+        result,
+        carry: last,
+        overflow: (result & Byte::TOP != 0) != (result & (Byte::TOP >> 1) != 0),
     }
 }
 
-// SHR and SAR, which set C alone.
-pub fn downward8(shift: Shift, value: u8, count: u8) -> ResultC8
-    ensures { λ r. ⌜ c8 r ≡ downward 8 shift value count ⌝ }
+// SHR, or SAR if signed, whose sign stays as it is from step to step. They set C alone.
+pub fn downward8(signed: bool, value: u8, count: u8) -> ResultC8
+    ensures { λ r. ⌜ c8 r ≡ downward 8 (downBy signed) value count ⌝ }
 {
-    let last = step::all_steps8(
-        shift,
-        count,
-        Step8 {
-            value,
-            carry: false,
-        },
-    );
+    let sign = signed & (value & Byte::TOP != 0);
+    let mut result = value;
+    let mut last = false;
+    for _ in 0..count {
+        let made = step::right8(sign, result);
+        result = made.value;
+        last = made.carry;
+    }
     ResultC8 {
-        result: last.value,
-        carry: last.carry,
+        result,
+        carry: last,
     }
 }
 
-// SHL, ROL and RCL.
-pub fn leftward16(shift: Shift, value: u16, count: u8, carry: bool) -> ResultCo16
-    ensures { λ r. ⌜ co16 r ≡ leftward 16 shift value count carry ⌝ }
+// SHL; where it rotates, ROL, or RCL if through C.
+pub fn leftward16(rotates: bool, through: bool, value: u16, count: u8, carry: bool) -> ResultCo16
+    ensures { λ r. ⌜ co16 r ≡ leftward 16 (leftBy rotates through) value count carry ⌝ }
 {
-    let last = step::all_steps16(shift, count, Step16 { value, carry });
+    if count == 0 {
+        return ResultCo16 {
+            result: value,
+            carry,
+            overflow: false,
+        };
+    }
+    let mut result = value;
+    let mut last = carry;
+    for _ in 0..count {
+        let back = again(through, last, result & Word::TOP != 0);
+        let made = step::left16(rotates & back, result);
+        result = made.value;
+        last = made.carry;
+    }
     ResultCo16 {
-        result: last.value,
-        carry: last.carry,
-        overflow: count != 0 && last.carry != (last.value & Word::TOP != 0),
+        result,
+        carry: last,
+        overflow: last != (result & Word::TOP != 0),
     }
 }
 
-// ROR and RCR.
-pub fn rightward16(shift: Shift, value: u16, count: u8, carry: bool) -> ResultCo16
-    ensures { λ r. ⌜ co16 r ≡ rightward 16 shift value count carry ⌝ }
+// ROR, or RCR if through C.
+pub fn rightward16(through: bool, value: u16, count: u8, carry: bool) -> ResultCo16
+    ensures { λ r. ⌜ co16 r ≡ rightward 16 (rightBy through) value count carry ⌝ }
 {
-    let last = step::all_steps16(shift, count, Step16 { value, carry });
+    if count == 0 {
+        return ResultCo16 {
+            result: value,
+            carry,
+            overflow: false,
+        };
+    }
+    let mut result = value;
+    let mut last = carry;
+    for _ in 0..count {
+        let back = again(through, last, result & 1 != 0);
+        let made = step::right16(back, result);
+        result = made.value;
+        last = made.carry;
+    }
     ResultCo16 {
-        result: last.value,
-        carry: last.carry,
-        overflow: count != 0
-            && (last.value & Word::TOP != 0) != (last.value & (Word::TOP >> 1) != 0),
+        result,
+        carry: last,
+        overflow: (result & Word::TOP != 0) != (result & (Word::TOP >> 1) != 0),
     }
 }
 
-// SHR and SAR, which set C alone.
-pub fn downward16(shift: Shift, value: u16, count: u8) -> ResultC16
-    ensures { λ r. ⌜ c16 r ≡ downward 16 shift value count ⌝ }
+// SHR, or SAR if signed, whose sign stays as it is from step to step. They set C alone.
+pub fn downward16(signed: bool, value: u16, count: u8) -> ResultC16
+    ensures { λ r. ⌜ c16 r ≡ downward 16 (downBy signed) value count ⌝ }
 {
-    let last = step::all_steps16(
-        shift,
-        count,
-        Step16 {
-            value,
-            carry: false,
-        },
-    );
+    let sign = signed & (value & Word::TOP != 0);
+    let mut result = value;
+    let mut last = false;
+    for _ in 0..count {
+        let made = step::right16(sign, result);
+        result = made.value;
+        last = made.carry;
+    }
     ResultC16 {
-        result: last.value,
-        carry: last.carry,
+        result,
+        carry: last,
     }
 }

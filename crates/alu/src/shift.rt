@@ -9,12 +9,11 @@ use crate::result::ResultCo8;
 use crate::result::ResultCo16;
 use crate::result::ResultCoa8;
 use crate::result::ResultCoa16;
-use crate::step::Shift;
 
 pub fn alu_shl8(value: u8, count: u8) -> ResultCo8
     ensures { λ r. ⌜ co8 r ≡ shl 8 value count ⌝ }
 {
-    last::leftward8(Shift::Shl, value, count, false)
+    last::leftward8(false, false, value, count, false)
 }
 
 // One opcode of the chip sets A too, to bit 4 of the last result.
@@ -33,19 +32,19 @@ pub fn alu_shl_af8(value: u8, count: u8) -> ResultCoa8
 pub fn alu_shr8(value: u8, count: u8) -> ResultC8
     ensures { λ r. ⌜ c8 r ≡ shr 8 value count ⌝ }
 {
-    last::downward8(Shift::Shr, value, count)
+    last::downward8(false, value, count)
 }
 
 pub fn alu_sar8(value: u8, count: u8) -> ResultC8
     ensures { λ r. ⌜ c8 r ≡ sar 8 value count ⌝ }
 {
-    last::downward8(Shift::Sar, value, count)
+    last::downward8(true, value, count)
 }
 
 pub fn alu_shl16(value: u16, count: u8) -> ResultCo16
     ensures { λ r. ⌜ co16 r ≡ shl 16 value count ⌝ }
 {
-    last::leftward16(Shift::Shl, value, count, false)
+    last::leftward16(false, false, value, count, false)
 }
 
 // One opcode of the chip sets A too, to bit 4 of the last result.
@@ -64,11 +63,11 @@ pub fn alu_shl_af16(value: u16, count: u8) -> ResultCoa16
 pub fn alu_shr16(value: u16, count: u8) -> ResultC16
     ensures { λ r. ⌜ c16 r ≡ shr 16 value count ⌝ }
 {
-    last::downward16(Shift::Shr, value, count)
+    last::downward16(false, value, count)
 }
 
 pub fn alu_sar16(value: u16, count: u8) -> ResultC16
     ensures { λ r. ⌜ c16 r ≡ sar 16 value count ⌝ }
 {
-    last::downward16(Shift::Sar, value, count)
+    last::downward16(true, value, count)
 }
