@@ -3,11 +3,13 @@
 use mathlib.Core.Path.{_≡_, refl, sym, ap, _∙_}
 use mathlib.Core.Bool.{Bool, true, false, not, _&&_, cond, xor, Bool·beq}
 use Prim.Native.Nat.{ℕ, zero, suc, _+_, _-_, _*_, _/_, _%_, _^_, _≤_, _<_}
-use native.Mathlib.Nat.{mod-eq-of-lt}
+use native.Mathlib.Nat.{mod-eq-of-lt, mod-lt}
 use native.Mathlib.Numerals.{add-one}
 use native.Mathlib.Omega.{arith}
+use lib.Arith.{digits-div}
 use lib.Bits.{bitAnd, bitOr, or-shifted}
 use lib.Dec.{eqb}
+use lib.Pow.{pow-pos}
 use borrow.Author.Tests.{le-leb, lt-leb}
 use Rattle.flags.specs.Numbers.{bit, isSet, top, topSet}
 use Rattle.flags.proofs.Powers.{top-twice, rest-small, rest-large}
@@ -53,15 +55,38 @@ module _ (n x : ℕ) (e : Bool) (hn : 0 < n) (hx : x < 2 ^ n) where
       shifted e =
           ap (λ (y : ℕ). bitOr y (x / 2)) (mod-eq-of-lt (fits e)) ∙ or-shifted (bit e) (n - 1) (x / 2) (let m = top-twice n hn in omega arith) ∙ sym (half e)
 
--- a step of the code: what it lets enter is what the definition names
-module _ (n : ℕ) (s : Step) {back : Bool} {r : Step} where
-  pub left-step : (rotates through : Bool) → 0 < n → s .value < 2 ^ n → back ≡ cond through (s .carry) (not (eqb (bitAnd (s .value) (top n)) 0))
-      → r ≡ left n (rotates && back) (s .value) → r ≡ step n (leftBy rotates through) s
-  unfolding step
-  left-step false through hn hs eb e = e
-  left-step true false hn hs eb e = e ∙ ap (λ (b : Bool). left n b (s .value)) (eb ∙ mask-top n (s .value) hn hs)
-  left-step true true hn hs eb e = e ∙ ap (λ (b : Bool). left n b (s .value)) eb
+-- a step of the code: what it lets enter is what the definition names. Leftward C and the bit that leaves are numbers
+module _ (n : ℕ) (s : Step) (hn : 0 < n) (hs : s .value < 2 ^ n) where
+  pub top-digit : s .value / top n ≡ bit (topSet n (s .value))
+  top-digit = by (topSet n (s .value)) (top-is n (s .value))
+    where
+      by : (t : Bool) → TopIs t (top n) (s .value) → s .value / top n ≡ bit t
+      by true h =
+          let m = top-twice n hn in
+          let split : s .value ≡ 1 * top n + (s .value - top n) = omega arith in
+          ap (λ (y : ℕ). y / top n) split ∙ digits-div 1 (omega arith)
+      by false h = let split : s .value ≡ 0 * top n + s .value = omega arith in ap (λ (y : ℕ). y / top n) split ∙ digits-div 0 h
 
+  moved : (e : Bool) {d : ℕ} → d ≡ bit e → before (bitOr (s .value * 2 % 2 ^ n) d) (topSet n (s .value)) ≡ left n e (s .value)
+  unfolding left
+  moved e ed =
+      let value = ap (λ (d : ℕ). bitOr (s .value * 2 % 2 ^ n) d) ed ∙ ap (λ (r : Step). r .value) (left-is n (s .value) e hn hs) in
+      λ i. record { value = value i; carry = topSet n (s .value) }
+
+  pub left-step : (rotates through : Bool) {last enters : ℕ} → last ≡ bit (s .carry) → enters ≡ cond rotates (cond through last (s .value / top n)) 0
+      → before (bitOr (s .value * 2 % 2 ^ n) enters) (topSet n (s .value)) ≡ step n (leftBy rotates through) s
+  unfolding step
+  left-step false through el ee = moved false ee
+  left-step true false el ee = moved (topSet n (s .value)) (ee ∙ top-digit)
+  left-step true true el ee = moved (s .carry) (ee ∙ el)
+
+  pub left-small : (rotates through : Bool) {r : Step} → r ≡ step n (leftBy rotates through) s → r .value < 2 ^ n
+  unfolding step left
+  left-small false through e = omega (arith, ap (λ (r : Step). r .value) e, mod-lt (s .value * 2 + 0) (pow-pos n))
+  left-small true false e = omega (arith, ap (λ (r : Step). r .value) e, mod-lt (s .value * 2 + bit (topSet n (s .value))) (pow-pos n))
+  left-small true true e = omega (arith, ap (λ (r : Step). r .value) e, mod-lt (s .value * 2 + bit (s .carry)) (pow-pos n))
+
+module _ (n : ℕ) (s : Step) {back : Bool} {r : Step} where
   pub right-step : (through : Bool) → back ≡ cond through (s .carry) (not (eqb (bitAnd (s .value) 1) 0)) → r ≡ right n back (s .value) → r ≡ step n (rightBy through) s
   unfolding step
   right-step false eb e = e ∙ ap (λ (b : Bool). right n b (s .value)) (eb ∙ mask-bit 0 (s .value))
@@ -104,6 +129,10 @@ none : (count : ℕ) (flag : Bool) → count ≡ 0 → not (eqb count 0) ≡ ofL
 none zero flag e = refl
 none (suc k) flag e = absurd (omega arith)
 
+flag-back : (b : Bool) → not (eqb (bit b) 0) ≡ b
+flag-back true = refl
+flag-back false = refl
+
 -- the last step s, with O as the code tests it
 abbrev with-o : Step → Bool → ResultCo
 with-o s o = record { result = s .value; carry = s .carry; overflow = o }
@@ -122,9 +151,12 @@ module _ (n : ℕ) (shift : Shift) (x count : ℕ) (c : Bool) {k : ℕ} {s : Ste
   done : s ≡ steps n shift count (before x c)
   done = e ∙ ap (λ (j : ℕ). steps n shift j (before x c)) all
 
-  pub left-o : with-o s (not (Bool·beq (s .carry) (not (eqb (bitAnd (s .value) (top n)) 0)))) ≡ leftward n shift x count c
+  pub left-o : {last : ℕ} → last ≡ bit (s .carry)
+      → _≡_ {A = ResultCo} (record { result = s .value; carry = not (eqb last 0); overflow = not (Bool·beq (not (eqb last 0)) (not (eqb (bitAnd (s .value) (top n)) 0))) }) (leftward n shift x count c)
   unfolding leftward xor
-  left-o = ap (with-o s) (ap (λ (b : Bool). not (Bool·beq (s .carry) b)) (mask-top n (s .value) hn hs) ∙ made count _ h) ∙ ap (leftO n count) done
+  left-o el =
+      rw (ap (λ (d : ℕ). not (eqb d 0)) el ∙ flag-back (s .carry))
+      (ap (with-o s) (ap (λ (b : Bool). not (Bool·beq (s .carry) b)) (mask-top n (s .value) hn hs) ∙ made count _ h) ∙ ap (leftO n count) done)
 
   pub right-o : with-o s (not (Bool·beq (not (eqb (bitAnd (s .value) (top n)) 0)) (not (eqb (bitAnd (s .value) (2 ^ (n - 2))) 0)))) ≡ rightward n shift x count c
   unfolding rightward xor

@@ -20,6 +20,17 @@ fn again(through: bool, carry: bool, leaves: bool) -> bool
     if through { carry } else { leaves }
 }
 
+// What enters leftward: nothing, or the bit that left a step before, which is C, or the one that leaves.
+fn enters8(rotates: bool, through: bool, carry: u8, leaves: u8) -> u8
+    ensures { λ r. ⌜ r ≡ cond rotates (cond through carry leaves) 0 ⌝ }
+{
+    if rotates {
+        if through { carry } else { leaves }
+    } else {
+        0
+    }
+}
+
 // SHL; where it rotates, ROL, or RCL if through C.
 pub fn leftward8(rotates: bool, through: bool, value: u8, count: u8, carry: bool) -> ResultCo8
     ensures { λ r. ⌜ co8 r ≡ leftward 8 (leftBy rotates through) value count carry ⌝ }
@@ -32,17 +43,17 @@ pub fn leftward8(rotates: bool, through: bool, value: u8, count: u8, carry: bool
         };
     }
     let mut result = value;
-    let mut last = carry;
+    let mut last = carry as u8;
     for _ in 0..count {
-        let back = again(through, last, result & Byte::TOP != 0);
-        let made = step::left8(rotates & back, result);
-        result = made.value;
-        last = made.carry;
+        let leaves = result >> (Byte::BITS - 1);
+        let enters = enters8(rotates, through, last, leaves);
+        result = (result << 1) | enters;
+        last = leaves;
     }
     ResultCo8 {
         result,
-        carry: last,
-        overflow: last != (result & Byte::TOP != 0),
+        carry: last != 0,
+        overflow: (last != 0) != (result & Byte::TOP != 0),
     }
 }
 
@@ -90,6 +101,17 @@ pub fn downward8(signed: bool, value: u8, count: u8) -> ResultC8
     }
 }
 
+// What enters leftward: nothing, or the bit that left a step before, which is C, or the one that leaves.
+fn enters16(rotates: bool, through: bool, carry: u16, leaves: u16) -> u16
+    ensures { λ r. ⌜ r ≡ cond rotates (cond through carry leaves) 0 ⌝ }
+{
+    if rotates {
+        if through { carry } else { leaves }
+    } else {
+        0
+    }
+}
+
 // SHL; where it rotates, ROL, or RCL if through C.
 pub fn leftward16(rotates: bool, through: bool, value: u16, count: u8, carry: bool) -> ResultCo16
     ensures { λ r. ⌜ co16 r ≡ leftward 16 (leftBy rotates through) value count carry ⌝ }
@@ -102,17 +124,17 @@ pub fn leftward16(rotates: bool, through: bool, value: u16, count: u8, carry: bo
         };
     }
     let mut result = value;
-    let mut last = carry;
+    let mut last = carry as u16;
     for _ in 0..count {
-        let back = again(through, last, result & Word::TOP != 0);
-        let made = step::left16(rotates & back, result);
-        result = made.value;
-        last = made.carry;
+        let leaves = result >> (Word::BITS - 1);
+        let enters = enters16(rotates, through, last, leaves);
+        result = (result << 1) | enters;
+        last = leaves;
     }
     ResultCo16 {
         result,
-        carry: last,
-        overflow: last != (result & Word::TOP != 0),
+        carry: last != 0,
+        overflow: (last != 0) != (result & Word::TOP != 0),
     }
 }
 
