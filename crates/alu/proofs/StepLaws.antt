@@ -15,8 +15,8 @@ use Rattle.flags.specs.Numbers.{bit, isSet, top, topSet}
 use Rattle.flags.proofs.Powers.{top-twice, rest-small, rest-large}
 use Rattle.flags.proofs.Masks.{mask-bit, mask-top, or-bit}
 use Rattle.flags.proofs.SignedLaws.{TopIs, top-is}
-use Rattle.flags.proofs.WordLaws.{bit-le}
-use Rattle.alu.specs.Result.{ResultCo, ResultCoa}
+use Rattle.flags.proofs.WordLaws.{bit-le, bit-isSet}
+use Rattle.alu.specs.Result.{ResultC, ResultCo, ResultCoa}
 use Rattle.alu.specs.Step.{Shift, Sar, Step, before, left, right, step, steps}
 use Rattle.alu.specs.Shift.{leftBy, rightBy, downBy, ofLast, leftO, rightO, carryOnly, withA, leftward, rightward, downward, shl, shlAf}
 
@@ -108,7 +108,7 @@ stays n x c hn zero = refl
 stays n x c hn (suc k) = kept n (steps n Sar k (before x c) .value) hn ∙ stays n x c hn k
 
 -- so a step of the code may let the first value's sign enter
-pub down-step : (n x : ℕ) (signed : Bool) (k : ℕ) {t r : Step} → 0 < n → x < 2 ^ n → t ≡ steps n (downBy signed) k (before x false)
+down-step : (n x : ℕ) (signed : Bool) (k : ℕ) {t r : Step} → 0 < n → x < 2 ^ n → t ≡ steps n (downBy signed) k (before x false)
     → r ≡ right n (signed && not (eqb (bitAnd x (top n)) 0)) (t .value) → r ≡ step n (downBy signed) t
 unfolding step
 down-step n x false k hn hx et e = e
@@ -167,9 +167,40 @@ module _ (n : ℕ) (shift : Shift) (x count : ℕ) (c : Bool) {k : ℕ} {s : Ste
       ∙ made count _ h)
       ∙ ap (rightO n count) done
 
-pub down-done : (n : ℕ) (shift : Shift) (x count : ℕ) {k : ℕ} {s : Step} → s ≡ steps n shift k (before x false) → k ≡ count → carryOnly s ≡ downward n shift x count
-unfolding downward
-down-done n shift x count e all = ap carryOnly (e ∙ ap (λ (j : ℕ). steps n shift j (before x false)) all)
+-- SHR and SAR with C below the value, in one number
+abbrev pub below : Step → ℕ
+below s = s .value * 2 + bit (s .carry)
+
+-- what enters is 0 or 1
+pub fill-le : (n : ℕ) (signed : Bool) (x : ℕ) → bit (signed && not (eqb (bitAnd x (top n)) 0)) ≤ 1
+fill-le n signed x = bit-le (signed && not (eqb (bitAnd x (top n)) 0))
+
+module _ (n : ℕ) (signed : Bool) (x : ℕ) (hn : 0 < n) (hx : x < 2 ^ n) (k : ℕ) {w : ℕ} (e : w ≡ below (steps n (downBy signed) k (before x false))) where
+  pub down-again : bit (signed && not (eqb (bitAnd x (top n)) 0)) * 2 ^ n + w / 2 ≡ below (steps n (downBy signed) (k + 1) (before x false))
+  unfolding right
+  down-again =
+      let t = steps n (downBy signed) k (before x false) in
+      let b = bit-le (t .carry) in
+      let half : w / 2 ≡ t .value = omega arith in
+      ap (λ (y : ℕ). bit enters * 2 ^ n + y) half ∙ sym (by enters (t .value))
+      ∙ ap below (again n (downBy signed) k (before x false) {t = t} {r = right n enters (t .value)} refl (down-step n x signed k hn hx refl refl))
+    where
+      enters : Bool
+      enters = signed && not (eqb (bitAnd x (top n)) 0)
+
+      by : (b : Bool) (v : ℕ) → (bit b * 2 ^ n + v) / 2 * 2 + bit (isSet 0 v) ≡ bit b * 2 ^ n + v
+      by true v = let m = top-twice n hn in let d = bit-isSet 0 v in omega arith
+      by false v = let d = bit-isSet 0 v in omega arith
+
+  pub down-done : {count : ℕ} → k ≡ count → _≡_ {A = ResultC} (record { result = w / 2; carry = not (eqb (w % 2) 0) }) (downward n (downBy signed) x count)
+  unfolding downward
+  down-done all =
+      let t = steps n (downBy signed) k (before x false) in
+      let b = bit-le (t .carry) in
+      let half : w / 2 ≡ t .value = omega arith in
+      let odd : w % 2 ≡ bit (t .carry) = omega arith in
+      let flag : not (eqb (w % 2) 0) ≡ t .carry = ap (λ (d : ℕ). not (eqb d 0)) odd ∙ flag-back (t .carry) in
+      (λ i. record { result = half i; carry = flag i }) ∙ ap (λ (j : ℕ). carryOnly (steps n (downBy signed) j (before x false))) all
 
 -- A of op 0C, on what SHL gave
 abbrev with-a : ResultCo → Bool → ResultCoa

@@ -83,21 +83,20 @@ pub fn rightward8(through: bool, value: u8, count: u8, carry: bool) -> ResultCo8
     }
 }
 
-// SHR, or SAR if signed, whose sign stays as it is from step to step. They set C alone.
+// SHR, or SAR if signed, whose sign stays as it is from step to step. They set C alone, which stands
+// below the value in one number.
 pub fn downward8(signed: bool, value: u8, count: u8) -> ResultC8
     ensures { λ r. ⌜ c8 r ≡ downward 8 (downBy signed) value count ⌝ }
 {
     let sign = signed & (value & Byte::TOP != 0);
-    let mut result = value;
-    let mut last = false;
+    let fill = sign as u32 * 0x100;
+    let mut wide = value as u32 * 2;
     for _ in 0..count {
-        let made = step::right8(sign, result);
-        result = made.value;
-        last = made.carry;
+        wide = fill + wide / 2;
     }
     ResultC8 {
-        result,
-        carry: last,
+        result: (wide / 2) as u8,
+        carry: wide % 2 != 0,
     }
 }
 
@@ -164,20 +163,19 @@ pub fn rightward16(through: bool, value: u16, count: u8, carry: bool) -> ResultC
     }
 }
 
-// SHR, or SAR if signed, whose sign stays as it is from step to step. They set C alone.
+// SHR, or SAR if signed, whose sign stays as it is from step to step. They set C alone, which stands
+// below the value in one number.
 pub fn downward16(signed: bool, value: u16, count: u8) -> ResultC16
     ensures { λ r. ⌜ c16 r ≡ downward 16 (downBy signed) value count ⌝ }
 {
     let sign = signed & (value & Word::TOP != 0);
-    let mut result = value;
-    let mut last = false;
+    let fill = sign as u32 * 0x1_0000;
+    let mut wide = value as u32 * 2;
     for _ in 0..count {
-        let made = step::right16(sign, result);
-        result = made.value;
-        last = made.carry;
+        wide = fill + wide / 2;
     }
     ResultC16 {
-        result,
-        carry: last,
+        result: (wide / 2) as u16,
+        carry: wide % 2 != 0,
     }
 }
