@@ -6,10 +6,10 @@ use Prim.Native.Nat.{ℕ, zero, suc, _+_, _-_, _*_, _/_, _%_, _<_, _≤_}
 use native.Mathlib.Omega.{arith}
 use lib.Dec.{ltb, eqb}
 use lib.ListN.{length, getD, take, drop, length-drop}
-use lib.Seq.{getD-take, getD-drop}
+use lib.Seq.{getD-take, getD-drop, length-take-le}
 use borrow.Author.Tests.{eq-eqb, ne-eqb}
 use Rattle.text.specs.Digits.{digitOf}
-use Rattle.text.specs.Fields.{fourOf, fourAt, fieldsOf, readOf}
+use Rattle.text.specs.Fields.{fourOf, fourAt, fieldsOf, fieldsAt, readOf}
 use Rattle.text.specs.Lines.{lineLength}
 use Rattle.text.specs.declared.fields.Fields.{Fields}
 use Rattle.text.specs.declared.fields.Read.{Read}
@@ -54,35 +54,6 @@ four-small a b c d h =
     let x = both (ltb a 16) (ltb b 16) (y .0) in
     (x .0, x .1, y .1, z .1)
 
-module _ (line : List ℕ) where
-  abbrev NoFeed : ℕ → Type 0
-  NoFeed i = getD line i 0 ≡ 0x0A → ⊥
-
-  -- four digits that are a number
-  four-digits : (k : ℕ) → ltb (fourAt line k) 0x1_0000 ≡ true → (i : ℕ) → k ≤ i → i < k + 4 → NoFeed i
-  unfolding fourAt
-  four-digits k h =
-      let d = four-small (digitOf (getD line k 0)) (digitOf (getD line (k + 1) 0)) (digitOf (getD line (k + 2) 0)) (digitOf (getD line (k + 3) 0)) h in
-      four-places NoFeed k (no-feed (getD line k 0) (d .0)) (no-feed (getD line (k + 1) 0) (d .1)) (no-feed (getD line (k + 2) 0) (d .2)) (no-feed (getD line (k + 3) 0) (d .3))
-
-  -- one of the five groups of a line
-  group : (j i : ℕ) → i < 20 → i / 4 ≡ j
-      → ltb (fourAt line 0) 0x1_0000 ≡ true
-      → ltb (fourAt line 4) 0x1_0000 ≡ true
-      → ltb (fourAt line 8) 0x1_0000 ≡ true
-      → ltb (fourAt line 12) 0x1_0000 ≡ true
-      → ltb (fourAt line 16) 0x1_0000 ≡ true
-      → NoFeed i
-  group zero i p q a b c d e = four-digits 0 a i (omega (arith, q)) (omega (arith, q))
-  group (suc zero) i p q a b c d e = four-digits 4 b i (omega (arith, q)) (omega (arith, q))
-  group (suc (suc zero)) i p q a b c d e = four-digits 8 c i (omega (arith, q)) (omega (arith, q))
-  group (suc (suc (suc zero))) i p q a b c d e = four-digits 12 d i (omega (arith, q)) (omega (arith, q))
-  group (suc (suc (suc (suc zero)))) i p q a b c d e = four-digits 16 e i (omega (arith, q)) (omega (arith, q))
-  group (suc (suc (suc (suc (suc j))))) i p q a b c d e = absurd (omega (arith, q))
-
-  abbrev small : ℕ → Bool
-  small k = ltb (fourAt line k) 0x1_0000
-
 abbrev isFields : Read → Bool
 isFields (OfFields f) = true
 isFields Length = false
@@ -92,27 +63,73 @@ all-digits : (x : Bool) (f : Fields) → isFields (cond x (OfFields f) Digit) �
 all-digits true f e = refl
 all-digits false f e = e
 
-of-length : (x : Bool) (r : Read) → isFields (cond x r Length) ≡ true → isFields r ≡ true
-of-length true r e = e
-of-length false r e = absurd (false≢true e)
+module _ (text : List ℕ) where
+  abbrev NoFeed : ℕ → Type 0
+  NoFeed i = getD text i 0 ≡ 0x0A → ⊥
 
--- a line that is read as fields holds no line feed
-pub fields-hold-none : (line : List ℕ) (f : Fields) → readOf line ≡ OfFields f → (i : ℕ) → i < 20 → getD line i 0 ≡ 0x0A → ⊥
-unfolding readOf fieldsOf
-fields-hold-none line f e i p =
-    let n = small line in
-    let g : Fields = record { op = fourAt line 0 / 0x100; mode = fourAt line 0 % 0x100; flags = fourAt line 4; x = fourAt line 8 * 0x1_0000 + fourAt line 12; y = fourAt line 16 } in
-    let all = of-length (eqb (length line) 20) (fieldsOf (fourAt line 0) (fourAt line 4) (fourAt line 8) (fourAt line 12) (fourAt line 16)) (ap isFields e) in
-    let d = both (n 0 && n 4 && n 8 && n 12) (n 16) (all-digits (n 0 && n 4 && n 8 && n 12 && n 16) g all) in
-    let c = both (n 0 && n 4 && n 8) (n 12) (d .0) in
-    let b = both (n 0 && n 4) (n 8) (c .0) in
-    let a = both (n 0) (n 4) (b .0) in
-    group line (i / 4) i p refl (a .0) (a .1) (b .1) (c .1) (d .1)
+  abbrev small : ℕ → Bool
+  small k = ltb (fourAt text k) 0x1_0000
 
--- twenty bytes that are read as fields, and a line feed after them: a line
-module _ (text : List ℕ) (from : ℕ) (f : Fields) (inside : from + 20 < length text) (feed : getD text (from + 20) 0 ≡ 0x0A) (read : readOf (take 20 (drop from text)) ≡ OfFields f) where
-  pub line-of-twenty : lineLength (drop from text) ≡ 20
-  line-of-twenty = first-feed (drop from text) 20 (simp length-drop (omega arith)) before (getD-drop from text 20 0 ∙ feed)
-    where
-      before : (i : ℕ) → i < 20 → getD (drop from text) i 0 ≡ 0x0A → ⊥
-      before i p e = fields-hold-none (take 20 (drop from text)) f read i p (getD-take 20 (drop from text) i 0 p ∙ e)
+  -- four digits that are a number
+  four-digits : (k : ℕ) → small k ≡ true → (i : ℕ) → k ≤ i → i < k + 4 → NoFeed i
+  unfolding fourAt
+  four-digits k h =
+      let d = four-small (digitOf (getD text k 0)) (digitOf (getD text (k + 1) 0)) (digitOf (getD text (k + 2) 0)) (digitOf (getD text (k + 3) 0)) h in
+      four-places NoFeed k (no-feed (getD text k 0) (d .0)) (no-feed (getD text (k + 1) 0) (d .1)) (no-feed (getD text (k + 2) 0) (d .2)) (no-feed (getD text (k + 3) 0) (d .3))
+
+  -- one of five groups of them
+  group : (from i j : ℕ) → from ≤ i → i < from + 20 → (i - from) / 4 ≡ j
+      → small from ≡ true → small (from + 4) ≡ true → small (from + 8) ≡ true → small (from + 12) ≡ true → small (from + 16) ≡ true → NoFeed i
+  group from i zero l h q a b c d e = four-digits from a i (omega (arith, q)) (omega (arith, q))
+  group from i (suc zero) l h q a b c d e = four-digits (from + 4) b i (omega (arith, q)) (omega (arith, q))
+  group from i (suc (suc zero)) l h q a b c d e = four-digits (from + 8) c i (omega (arith, q)) (omega (arith, q))
+  group from i (suc (suc (suc zero))) l h q a b c d e = four-digits (from + 12) d i (omega (arith, q)) (omega (arith, q))
+  group from i (suc (suc (suc (suc zero)))) l h q a b c d e = four-digits (from + 16) e i (omega (arith, q)) (omega (arith, q))
+  group from i (suc (suc (suc (suc (suc j))))) l h q a b c d e = absurd (omega (arith, q))
+
+  -- twenty bytes that are read as fields hold no line feed
+  fields-hold-none : (from : ℕ) (f : Fields) → fieldsAt text from ≡ OfFields f → (i : ℕ) → from ≤ i → i < from + 20 → NoFeed i
+  unfolding fieldsAt fieldsOf
+  fields-hold-none from f e i l h =
+      let n : ℕ → Bool = λ k. small (from + k) in
+      let g : Fields = record { op = fourAt text from / 0x100; mode = fourAt text from % 0x100; flags = fourAt text (from + 4); x = fourAt text (from + 8) * 0x1_0000 + fourAt text (from + 12); y = fourAt text (from + 16) } in
+      let d = both (small from && n 4 && n 8 && n 12) (n 16) (all-digits (small from && n 4 && n 8 && n 12 && n 16) g (ap isFields e)) in
+      let c = both (small from && n 4 && n 8) (n 12) (d .0) in
+      let b = both (small from && n 4) (n 8) (c .0) in
+      let a = both (small from) (n 4) (b .0) in
+      group from i ((i - from) / 4) l h refl (a .0) (a .1) (b .1) (c .1) (d .1)
+
+module _ (text : List ℕ) (from : ℕ) where
+  -- the twenty bytes from there on, as a line of their own
+  abbrev twenty : List ℕ
+  twenty = take 20 (drop from text)
+
+  moved : (k j : ℕ) → j ≡ from + k → k < 20 → getD text j 0 ≡ getD twenty k 0
+  moved k j e h = ap (λ (n : ℕ). getD text n 0) e ∙ sym (getD-take 20 (drop from text) k 0 h ∙ getD-drop from text k 0)
+
+  four-moved : (k j : ℕ) → j ≡ from + k → k + 3 < 20 → fourAt text j ≡ fourAt twenty k
+  unfolding fourAt
+  four-moved k j e h =
+      let a = moved k j e (omega arith) in
+      let b = moved (k + 1) (j + 1) (omega arith) (omega arith) in
+      let c = moved (k + 2) (j + 2) (omega arith) (omega arith) in
+      let d = moved (k + 3) (j + 3) (omega arith) (omega arith) in
+      λ i. fourOf (digitOf (a i)) (digitOf (b i)) (digitOf (c i)) (digitOf (d i))
+
+  pub read-there : from + 20 ≤ length text → fieldsAt text from ≡ readOf twenty
+  unfolding readOf fieldsAt
+  read-there h =
+      let long : length twenty ≡ 20 = length-take-le 20 (drop from text) (simp length-drop (omega arith)) in
+      let a = four-moved 0 from (omega arith) (omega arith) in
+      let b = four-moved 4 (from + 4) refl (omega arith) in
+      let c = four-moved 8 (from + 8) refl (omega arith) in
+      let d = four-moved 12 (from + 12) refl (omega arith) in
+      let e = four-moved 16 (from + 16) refl (omega arith) in
+      rw (eq-eqb (length twenty) 20 long) (λ i. fieldsOf (a i) (b i) (c i) (d i) (e i))
+
+  -- read as fields, and a line feed after them: a line
+  pub line-of-twenty : (f : Fields) → from + 20 < length text → getD text (from + 20) 0 ≡ 0x0A → fieldsAt text from ≡ OfFields f → lineLength (drop from text) ≡ 20
+  line-of-twenty f h feed read =
+      first-feed (drop from text) 20 (simp length-drop (omega arith))
+      (λ i p e. fields-hold-none text from f read (from + i) (omega arith) (omega arith) (sym (getD-drop from text i 0) ∙ e))
+      (getD-drop from text 20 0 ∙ feed)

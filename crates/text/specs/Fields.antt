@@ -22,7 +22,10 @@ fieldsOf head flags upper lower y =
     (OfFields (record { op = head / 0x100; mode = head % 0x100; flags = flags; x = upper * 0x1_0000 + lower; y = y }))
     Digit
 
+-- the 20 bytes from a place on
+unfoldable pub fieldsAt : List ℕ → ℕ → Read
+fieldsAt text from = fieldsOf (fourAt text from) (fourAt text (from + 4)) (fourAt text (from + 8)) (fourAt text (from + 12)) (fourAt text (from + 16))
+
 -- the length comes before the digits
 unfoldable pub readOf : List ℕ → Read
-readOf line =
-    cond (eqb (length line) 20) (fieldsOf (fourAt line 0) (fourAt line 4) (fourAt line 8) (fourAt line 12) (fourAt line 16)) Length
+readOf line = cond (eqb (length line) 20) (fieldsAt line 0) Length

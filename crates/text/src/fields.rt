@@ -3,7 +3,7 @@ ghost use mathlib.Core.Path.{_≡_};
 ghost use Prim.Native.Nat.{_+_, _≤_, _<_};
 ghost use lib.ListN.{length};
 ghost use Rattle.text.specs.Digits.{DigitTable};
-ghost use Rattle.text.specs.Fields.{fourOf, fourAt, fieldsOf, readOf};
+ghost use Rattle.text.specs.Fields.{fourOf, fourAt, fieldsOf, fieldsAt, readOf};
 use crate::digits;
 
 pub struct Fields {
@@ -60,6 +60,21 @@ fn grouped(head: u32, flags: u32, upper: u32, lower: u32, y: u32) -> Read
     Read::Digit
 }
 
+// The 20 bytes from `from` on.
+pub fn fields_at(table: &[u8; 256], text: &[u8], from: usize) -> Read
+    requires { ⌜ DigitTable (now table) ⌝ }
+    requires { ⌜ from + 20 ≤ length (now text) ⌝ }
+    ensures { λ r. ⌜ r ≡ fieldsAt (now (text .entry)) from ⌝ }
+{
+    grouped(
+        four_at(table, text, from),
+        four_at(table, text, from + 4),
+        four_at(table, text, from + 8),
+        four_at(table, text, from + 12),
+        four_at(table, text, from + 16),
+    )
+}
+
 // The line stands without its line feed.
 pub fn read_fields(table: &[u8; 256], line: &[u8]) -> Read
     requires { ⌜ DigitTable (now table) ⌝ }
@@ -68,11 +83,5 @@ pub fn read_fields(table: &[u8; 256], line: &[u8]) -> Read
     if line.len() != 20 {
         return Read::Length;
     }
-    grouped(
-        four_at(table, line, 0),
-        four_at(table, line, 4),
-        four_at(table, line, 8),
-        four_at(table, line, 12),
-        four_at(table, line, 16),
-    )
+    fields_at(table, line, 0)
 }

@@ -40,7 +40,7 @@ pub fn read_at(table: &[u8; 256], text: &[u8], from: usize) -> Found
     if text[from + 20] != b'\n' {
         return sought(table, text, from);
     }
-    let read = fields::read_fields(table, &text[from..from + 20]);
+    let read = fields::fields_at(table, text, from);
     if let Read::Fields(_) = read {
         return Found {
             read,

@@ -1,4 +1,4 @@
--- `text::fields::read_fields` meets its contract: the length first, then the five groups. Assumes nothing.
+-- `text::fields::read_fields` meets its contract: the length first, then the digits. Assumes nothing.
 use borrow.Author.Needs.{needs}
 use borrow.Author.Tests.{eq-eqb, ne-eqb}
 use Rattle.text.specs.Fields.{readOf}
@@ -11,17 +11,7 @@ returns c = simp (ne-eqb _ _ (c .if1 .taken))
 
 returns-2 : tie.Need-returns-2
 unfolding readOf
-returns-2 c = simp (eq-eqb _ _ (c .before .before .before .before .before .before .if1 .left)) (cc)
+returns-2 c = simp (eq-eqb _ _ (c .before .if1 .left)) (search needs)
 
 pub read-fields-spec : {M : Type 1} → statement M
-read-fields-spec =
-    tie.close
-    (tie.spec
-    returns
-    (λ c κs. search needs)
-    (λ c κs. search needs)
-    (λ c κs. search needs)
-    (λ c κs. search needs)
-    (λ c κs. search needs)
-    (λ c κs. search needs)
-    returns-2)
+read-fields-spec = tie.close (tie.spec returns (λ c κs. search needs) returns-2)
