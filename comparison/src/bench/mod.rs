@@ -1,7 +1,11 @@
-//! The port and a careful use of MartyPC's Rust, timed on the same job. Times are told, never judged.
+//! The port and MartyPC's Rust, timed on the same job. Times are told, never judged.
 
 pub mod calls;
+mod drawn;
 mod files;
+#[cfg(feature = "functions")]
+pub mod functions;
 mod memory;
 pub mod programs;
 mod rounds;
+pub mod table;

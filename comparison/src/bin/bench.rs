@@ -1,13 +1,16 @@
 //! The program `bench`: prints Markdown tables of times. `./bench` in the top folder starts it.
 
-use comparison::bench::calls;
+#[cfg(feature = "functions")]
+use comparison::bench::functions;
 use comparison::bench::programs::Programs;
+use comparison::bench::{calls, table};
 use std::process::ExitCode;
 
 const HELP: &str = "\
-Times the port beside a careful use of MartyPC's own Rust.
+Times the port beside MartyPC's own Rust.
 
 use:
+  bench functions                               bare functions, where the feature of that name is on
   bench calls                                   one call at a time, by operation
   bench programs HATCHYARN FILTER FOLDER        whole programs; files are made in FOLDER
 
@@ -18,7 +21,9 @@ fn main() -> ExitCode {
     let arguments: Vec<String> = std::env::args().skip(1).collect();
     let words: Vec<&str> = arguments.iter().map(String::as_str).collect();
     let measured = match words[..] {
-        ["calls"] => print_calls(),
+        #[cfg(feature = "functions")]
+        ["functions"] => table::print(functions::rows()),
+        ["calls"] => table::print(calls::rows()),
         ["programs", ours, theirs, folder] => Programs {
             ours: ours.into(),
             theirs: theirs.into(),
@@ -37,12 +42,4 @@ fn main() -> ExitCode {
             ExitCode::FAILURE
         }
     }
-}
-
-fn print_calls() -> Result<(), String> {
-    println!("{}", calls::heading());
-    for row in calls::rows() {
-        println!("{}", row?);
-    }
-    Ok(())
 }

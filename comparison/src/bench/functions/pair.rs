@@ -1,0 +1,107 @@
+//! A function of both sides on the same inputs: first compared, then timed.
+
+use super::given::Flags;
+use super::told::Told;
+use crate::asked::Asked;
+use crate::bench::{drawn, table};
+use crate::sides::{digits, Numbers};
+use oracle::request::Operation;
+use std::hint::black_box;
+use std::mem::MaybeUninit;
+
+/// A request made ready, so that the calls are all that is timed.
+pub struct Input {
+    pub x: u32,
+    pub y: u16,
+    pub carry: bool,
+    /// The flags as MartyPC keeps them, and as the port does.
+    pub word: u16,
+    pub flags: Flags,
+}
+
+impl From<Asked> for Input {
+    fn from(asked: Asked) -> Input {
+        let flags = Flags::from(asked.flags);
+        Input {
+            x: asked.x,
+            y: asked.y,
+            carry: flags.carry,
+            word: asked.flags,
+            flags,
+        }
+    }
+}
+
+pub struct Pair {
+    operation: Operation,
+    asked: Vec<Asked>,
+    inputs: Vec<Input>,
+}
+
+impl Pair {
+    pub fn new(operation: Operation) -> Pair {
+        let asked = drawn::inputs(operation);
+        let inputs = asked.iter().copied().map(Input::from).collect();
+        Pair {
+            operation,
+            asked,
+            inputs,
+        }
+    }
+
+    /// The row of the table. An error says where the two sides differ. Both must write all of what
+    /// they are given room for.
+    pub fn row<R: Told, S: Told>(
+        &self,
+        ours: impl Fn(&Input, &mut MaybeUninit<R>),
+        theirs: impl Fn(&Input, &mut MaybeUninit<S>),
+    ) -> Result<String, String> {
+        for (input, asked) in self.inputs.iter().zip(&self.asked) {
+            let [ours, theirs] = [answer(input, &ours), answer(input, &theirs)];
+            if ours != theirs {
+                let (line, ours, theirs) = (asked.line(), digits(&ours), digits(&theirs));
+                return Err(format!("{line}: {ours} and MartyPC's {theirs}"));
+            }
+        }
+        let (ours, theirs) = (|| pass(&self.inputs, &ours), || pass(&self.inputs, &theirs));
+        Ok(table::row(self.operation, ours, theirs))
+    }
+}
+
+fn answer<R: Told>(input: &Input, call: impl Fn(&Input, &mut MaybeUninit<R>)) -> Numbers {
+    let mut out = MaybeUninit::zeroed();
+    call(input, &mut out);
+    // SAFETY: the call has written all of it.
+    unsafe { out.assume_init() }.told()
+}
+
+#[inline(always)]
+fn pass<R>(inputs: &[Input], call: impl Fn(&Input, &mut MaybeUninit<R>)) {
+    let mut out = MaybeUninit::uninit();
+    for input in black_box(inputs) {
+        call(input, &mut out);
+        black_box(&mut out);
+    }
+}
+
+#[cfg(test)]
+mod tests {
+    use super::super::given::ResultCoa;
+    use super::super::martypc;
+    use super::*;
+    use oracle::request::{Alu, Width};
+
+    #[test]
+    fn a_wrong_answer_is_told_and_nothing_is_timed() {
+        let right = |input: &Input, out: &mut MaybeUninit<ResultCoa<u8>>| {
+            martypc::alu_add(out, input.x as u8, input.y as u8);
+        };
+        let wrong = |input: &Input, out: &mut MaybeUninit<ResultCoa<u8>>| {
+            martypc::alu_adc(out, input.x as u8, input.y as u8, input.carry);
+        };
+        let pair = Pair::new(Operation::Alu(Alu::Add, Width::Byte));
+        let told = pair.row(wrong, right).unwrap_err();
+        assert!(told.starts_with("0000"), "{told}");
+        assert!(told.contains(" and MartyPC's 00"), "{told}");
+    }
+}

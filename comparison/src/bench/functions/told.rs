@@ -1,0 +1,94 @@
+//! What a function wrote, as the numbers of an answer, so that the two sides can be compared.
+
+use super::given::{Divided, Done, Flags, Halves, ResultC, ResultCo, ResultCoa};
+use crate::sides::Numbers;
+
+pub trait Told {
+    /// Flags that the function does not name are clear, and so are those of a refused divide, where
+    /// the two sides are meant to differ.
+    fn told(self) -> Numbers;
+}
+
+impl<T: Into<u16>> Told for ResultC<T> {
+    fn told(self) -> Numbers {
+        leaf(self.result, [self.carry, false, false])
+    }
+}
+
+impl<T: Into<u16>> Told for ResultCo<T> {
+    fn told(self) -> Numbers {
+        leaf(self.result, [self.carry, self.overflow, false])
+    }
+}
+
+impl<T: Into<u16>> Told for ResultCoa<T> {
+    fn told(self) -> Numbers {
+        leaf(self.result, [self.carry, self.overflow, self.aux_carry])
+    }
+}
+
+impl<F: Into<u16>> Told for Done<u16, F> {
+    fn told(self) -> Numbers {
+        accepted(self.flags, self.steps, self.given, 0_u16)
+    }
+}
+
+impl<F: Into<u16>> Told for Done<Halves, F> {
+    fn told(self) -> Numbers {
+        accepted(self.flags, self.steps, self.given.upper, self.given.lower)
+    }
+}
+
+/// MartyPC's divides.
+impl<T: Into<u16>> Told for Done<Result<(T, T), bool>, u16> {
+    fn told(self) -> Numbers {
+        match self.given {
+            Ok((quotient, remainder)) => accepted(self.flags, self.steps, quotient, remainder),
+            Err(_) => refused(self.steps),
+        }
+    }
+}
+
+impl<T: Into<u16>> Told for Divided<T> {
+    fn told(self) -> Numbers {
+        match self {
+            Divided::Accepted {
+                quotient,
+                remainder,
+                flags,
+                steps,
+            } => accepted(flags, steps, quotient, remainder),
+            Divided::Refused { steps, .. } => refused(steps),
+        }
+    }
+}
+
+fn leaf(result: impl Into<u16>, [carry, overflow, aux_carry]: [bool; 3]) -> Numbers {
+    let flags = Flags {
+        carry,
+        overflow,
+        aux_carry,
+        ..Flags::from(0)
+    };
+    accepted(flags, 0, result, 0_u16)
+}
+
+fn accepted(flags: impl Into<u16>, steps: u16, r: impl Into<u16>, s: impl Into<u16>) -> Numbers {
+    Numbers {
+        status: 0,
+        flags: flags.into(),
+        steps,
+        r: r.into(),
+        s: s.into(),
+    }
+}
+
+fn refused(steps: u16) -> Numbers {
+    Numbers {
+        status: 6,
+        flags: 0,
+        steps,
+        r: 0,
+        s: 0,
+    }
+}
