@@ -12,10 +12,12 @@ leftBy false through = Shl
 leftBy true false = Rol
 leftBy true true = Rcl
 
+-- ROR, or RCR where through C
 abbrev pub rightBy : Bool → Shift
 rightBy false = Ror
 rightBy true = Rcr
 
+-- SHR, or SAR where signed
 abbrev pub downBy : Bool → Shift
 downBy false = Shr
 downBy true = Sar
@@ -38,12 +40,15 @@ rightO n count s =
 abbrev pub carryOnly : Step → ResultC
 carryOnly s = record { result = s .value; carry = s .carry }
 
+-- SHL, ROL and RCL: C and O of the last step
 unfoldable pub leftward : ℕ → Shift → ℕ → ℕ → Bool → ResultCo
 leftward n shift x count c = leftO n count (steps n shift count (before x c))
 
+-- ROR and RCR: C and O of the last step
 unfoldable pub rightward : ℕ → Shift → ℕ → ℕ → Bool → ResultCo
 rightward n shift x count c = rightO n count (steps n shift count (before x c))
 
+-- SHR and SAR: C of the last step
 unfoldable pub downward : ℕ → Shift → ℕ → ℕ → ResultC
 downward n shift x count = carryOnly (steps n shift count (before x false))
 
@@ -51,21 +56,27 @@ downward n shift x count = carryOnly (steps n shift count (before x false))
 abbrev pub shl : ℕ → ℕ → ℕ → ResultCo
 shl n x count = leftward n Shl x count false
 
+-- the bit that leaves above enters below
 abbrev pub rol : ℕ → ℕ → ℕ → ResultCo
 rol n x count = leftward n Rol x count false
 
+-- C enters below
 abbrev pub rcl : ℕ → ℕ → ℕ → Bool → ResultCo
 rcl n x count c = leftward n Rcl x count c
 
+-- the bit that leaves below enters above
 abbrev pub ror : ℕ → ℕ → ℕ → ResultCo
 ror n x count = rightward n Ror x count false
 
+-- C enters above
 abbrev pub rcr : ℕ → ℕ → ℕ → Bool → ResultCo
 rcr n x count c = rightward n Rcr x count c
 
+-- nothing enters
 abbrev pub shr : ℕ → ℕ → ℕ → ResultC
 shr n x count = downward n Shr x count
 
+-- the sign enters again
 abbrev pub sar : ℕ → ℕ → ℕ → ResultC
 sar n x count = downward n Sar x count
 
@@ -74,5 +85,6 @@ abbrev pub withA : ℕ → ResultCo → ResultCoa
 withA count r =
     record { result = r .result; carry = r .carry; overflow = r .overflow; auxCarry = ofLast count (isSet 4 (r .result)) }
 
+-- SHL that also sets A
 abbrev pub shlAf : ℕ → ℕ → ℕ → ResultCoa
 shlAf n x count = withA count (shl n x count)

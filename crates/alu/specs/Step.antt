@@ -4,6 +4,7 @@ use mathlib.Core.Bool.{Bool, false}
 use Prim.Native.Nat.{ℕ, zero, suc, _+_, _*_, _/_, _%_, _^_}
 use Rattle.flags.specs.Numbers.{bit, isSet, topSet}
 
+-- the seven that differ in how a bit moves and what enters
 pub data Shift : Type 0 where
   Shl Shr Sar Rol Ror Rcl Rcr : Shift
 
@@ -34,6 +35,7 @@ step n Rcr s = right n (s .carry) (s .value)
 abbrev pub before : ℕ → Bool → Step
 before x c = record { value = x; carry = c }
 
+-- the step made as often as the count says
 unfoldable pub steps : ℕ → Shift → ℕ → Step → Step
 steps n shift zero s = s
 steps n shift (suc k) s = step n shift (steps n shift k s)

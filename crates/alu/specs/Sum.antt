@@ -7,6 +7,7 @@ use lib.IntN.{pos, _+ℤ_, _-ℤ_}
 use Rattle.flags.specs.Numbers.{bit, signed, fitsSigned}
 use Rattle.alu.specs.Result.{ResultCoa}
 
+-- a plus b plus the carry taken in
 unfoldable pub adc : ℕ → ℕ → ℕ → Bool → ResultCoa
 adc n a b c =
     record {
@@ -16,6 +17,7 @@ adc n a b c =
       auxCarry = leb 16 (a % 16 + b % 16 + bit c);
     }
 
+-- a minus b minus the borrow taken in
 unfoldable pub sbb : ℕ → ℕ → ℕ → Bool → ResultCoa
 sbb n a b c =
     record {
@@ -25,9 +27,11 @@ sbb n a b c =
       auxCarry = ltb (a % 16) (b % 16 + bit c);
     }
 
+-- ADC with C clear
 abbrev pub add : ℕ → ℕ → ℕ → ResultCoa
 add n a b = adc n a b false
 
+-- SBB with C clear
 abbrev pub sub : ℕ → ℕ → ℕ → ResultCoa
 sub n a b = sbb n a b false
 

@@ -11,12 +11,14 @@ use Rattle.answer.specs.declared.answer.Answer.{Answer}
 abbrev pub zeros : ℕ → Answer
 zeros status = record { status = status; flags = 0; steps = 0; r = 0; s = 0 }
 
+-- an admitted request by the charts, else the status of its refusal
 abbrev pub answered : Judged → Answer
 answered (Admitted request) = charted request
 answered Unlisted = zeros 3
 answered WrongMode = zeros 4
 answered TooLarge = zeros 5
 
+-- judged, then answered
 unfoldable pub asked : ℕ → ℕ → ℕ → ℕ → ℕ → Answer
 asked op mode flags x y = answered (judged op mode flags x y)
 
@@ -24,8 +26,10 @@ asked op mode flags x y = answered (judged op mode flags x y)
 abbrev pub statusOf : ℕ → ℕ → ℕ → ℕ → ℕ → ℕ
 statusOf op mode flags x y = asked op mode flags x y .status
 
+-- flags, steps, R and S, in the order of an answer line
 abbrev pub parts : Answer → List ℕ
 parts a = a .flags ∷ a .steps ∷ a .r ∷ a .s ∷ []
 
+-- those of the answer to a raw request
 abbrev pub partsOf : ℕ → ℕ → ℕ → ℕ → ℕ → List ℕ
 partsOf op mode flags x y = parts (asked op mode flags x y)

@@ -36,12 +36,15 @@ plainOf f r = answerOf 0 f 0 r 0
 abbrev pub ofC : ResultC → Flags → Answer
 ofC m f = plainOf (setC (m .carry) f) (m .result)
 
+-- C and O
 abbrev pub ofCo : ResultCo → Flags → Answer
 ofCo m f = plainOf (setCO (m .carry) (m .overflow) f) (m .result)
 
+-- C, O and A
 abbrev pub ofCoa : ResultCoa → Flags → Answer
 ofCoa m f = plainOf (setCOA (m .carry) (m .overflow) (m .auxCarry) f) (m .result)
 
+-- the ALU chart: ADC, SBB, RCL and RCR take C in
 abbrev pub aluOf : ℕ → Alu → ℕ → ℕ → Flags → Answer
 aluOf n Add x y f = ofCoa (add n x y) f
 aluOf n Adc x y f = ofCoa (adc n x y (f .carry)) f
@@ -57,9 +60,11 @@ aluOf n Rcl x y f = ofCo (rcl n x y (f .carry)) f
 aluOf n Rcr x y f = ofCo (rcr n x y (f .carry)) f
 aluOf n ShlAf x y f = ofCoa (shlAf n x y) f
 
+-- R is an 8-bit product
 abbrev pub ofProduct8 : Multiplied → Answer
 ofProduct8 m = answerOf 0 (m .flags) (m .steps) (m .product) 0
 
+-- R is the upper half of a 16-bit product, S the lower
 abbrev pub ofProduct16 : Multiplied → Answer
 ofProduct16 m = answerOf 0 (m .flags) (m .steps) (m .product / 0x1_0000) (m .product % 0x1_0000)
 
@@ -68,9 +73,11 @@ abbrev pub ofDivided : Divided → Answer
 ofDivided (accepted quotient remainder f steps) = answerOf 0 f steps quotient remainder
 ofDivided (refused refusal f steps) = answerOf 6 f steps 0 0
 
+-- R is AX
 abbrev pub ofAdjusted : Adjusted → Answer
 ofAdjusted a = answerOf 0 (a .flags) (a .steps) (a .ax) 0
 
+-- the decimal chart
 abbrev pub adjustOf : Decimal → ℕ → ℕ → Flags → Adjusted
 adjustOf Aaa ax byte f = aaaOf ax f
 adjustOf Aas ax byte f = aasOf ax f
@@ -78,25 +85,31 @@ adjustOf Aad ax byte f = aadOf ax byte f
 adjustOf Daa ax byte f = daaOf ax f
 adjustOf Das ax byte f = dasOf ax f
 
+-- the bit count of a width
 abbrev pub bits : Width → ℕ
 bits Byte = 8
 bits Word = 16
 
+-- where the product stands, by the width
 abbrev pub multipliedBy : Width → Multiplied → Answer
 multipliedBy Byte m = ofProduct8 m
 multipliedBy Word m = ofProduct16 m
 
+-- the multiply chart
 abbrev pub multipliedOf : Mode → ℕ → ℕ → Flags → Answer
 multipliedOf m x y f = multipliedBy (m .width) (multiply (bits (m .width)) (m .signed) (m .rep) x y f)
 
+-- the divide chart
 abbrev pub dividedOf : Mode → ℕ → ℕ → Flags → Answer
 dividedOf m x y f = ofDivided (divide (bits (m .width)) (m .signed) (m .rep) x y f)
 
+-- each operation has its chart
 abbrev pub chartedBy : Operation → ℕ → ℕ → Flags → Answer
 chartedBy (OfAlu alu w) x y f = aluOf (bits w) alu x y f
 chartedBy (Multiply m) x y f = multipliedOf m x y f
 chartedBy (Divide m) x y f = dividedOf m x y f
 chartedBy (OfDecimal decimal) x y f = ofAdjusted (adjustOf decimal x y f)
 
+-- an admitted request by its chart
 unfoldable pub charted : Request → Answer
 charted r = chartedBy (r .operation) (r .x) (r .y) (r .flags)

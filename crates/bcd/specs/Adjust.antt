@@ -7,6 +7,7 @@ use lib.Dec.{leb, ltb}
 abbrev pub ahOf : ℕ → ℕ
 ahOf ax = ax / 256
 
+-- the lower half
 abbrev pub alOf : ℕ → ℕ
 alOf ax = ax % 256
 

@@ -23,6 +23,7 @@ ascii ah al adjusted o s =
 abbrev pub aaaO : ℕ → Bool
 aaaO al = between 0x7A 0x7F al
 
+-- S if old AL is 7A to F9
 abbrev pub aaaS : ℕ → Bool
 aaaS al = between 0x7A 0xF9 al
 
@@ -37,6 +38,7 @@ aaaOf ax f =
 abbrev pub aasO : ℕ → Bool → Bool
 aasO al a = a && between 0x80 0x85 al
 
+-- S if A was clear and old AL at least 80, or A set and old AL at most 05 or at least 86
 abbrev pub aasS : ℕ → Bool → Bool
 aasS al a = cond a (leb al 0x05 || leb 0x86 al) (leb 0x80 al)
 

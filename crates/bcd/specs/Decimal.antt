@@ -28,6 +28,7 @@ named al o f = setCOA (highAdjusts al (f .«aux_carry») (f .carry)) o (adjusts 
 abbrev pub daaO : ℕ → Bool → Bool
 daaO al c = cond c (between 0x1A 0x7F al) (between 0x7A 0x7F al)
 
+-- AL up
 unfoldable pub daaOf : ℕ → Flags → Adjusted
 daaOf ax f = decimal (ahOf ax) ((alOf ax + distance (alOf ax) f) % 256) (named (alOf ax) (daaO (alOf ax) (f .carry)) f)
 
@@ -36,5 +37,6 @@ abbrev pub dasO : ℕ → Bool → Bool → Bool
 dasO al a c =
     cond c (cond a (between 0x80 0xE5 al) (between 0x80 0xDF al)) (cond a (between 0x80 0x85 al || between 0xA0 0xE5 al) (between 0x9A 0xDF al))
 
+-- AL down
 unfoldable pub dasOf : ℕ → Flags → Adjusted
 dasOf ax f = decimal (ahOf ax) ((256 + alOf ax - distance (alOf ax) f) % 256) (named (alOf ax) (dasO (alOf ax) (f .«aux_carry») (f .carry)) f)

@@ -76,6 +76,7 @@ refusedFlags refusal f = f
 abbrev pub returned : Bool → Bool → ℤ → ℤ
 returned s rep q = cond (s && rep) (negℤ q) q
 
+-- the divide chart: quotient, remainder, flags and steps if accepted; else the refusal, its flags and its steps
 unfoldable pub divide : ℕ → Bool → Bool → ℕ → ℕ → Flags → Divided
 divide n s rep d b f =
     cond (accepts n s d b)

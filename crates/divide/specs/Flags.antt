@@ -7,6 +7,7 @@ use Rattle.flags.specs.Szp.{szp}
 use Rattle.flags.specs.declared.word.Flags.{Flags}
 use Rattle.alu.specs.Sum.{sub}
 
+-- of the compare left minus right
 unfoldable pub compareFlags : ℕ → ℕ → ℕ → Bool → Flags → Flags
 compareFlags n left right carry f =
     szp 16 (sub n left right .result) (setCOA carry (sub n left right .overflow) (sub n left right .auxCarry) f)

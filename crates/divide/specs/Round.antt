@@ -14,6 +14,7 @@ pub record Round : Type 0 where
 abbrev pub high : ℕ → Round → ℕ
 high n s = s .tmpa * 2 + s .tmpc * 2 / 2 ^ n
 
+-- the lower half, shifted
 abbrev pub low : ℕ → Round → ℕ
 low n s = s .tmpc * 2 % 2 ^ n
 
@@ -23,5 +24,6 @@ byRoad true _ b h l s = record { tmpa = h - b; tmpc = l + 1; compared = s .compa
 byRoad false true b h l s = record { tmpa = h - b; tmpc = l + 1; compared = h; steps = s .steps + 8 }
 byRoad false false b h l s = record { tmpa = h; tmpc = l; compared = h; steps = s .steps + 7 }
 
+-- a round: the pair shifted, then by its road
 unfoldable pub cordRound : ℕ → ℕ → Round → Round
 cordRound n b s = byRoad (leb (2 ^ n) (high n s)) (leb b (high n s)) b (high n s) (low n s) s

@@ -9,8 +9,16 @@ use lib.Bits.{bitOr, or-shifted}
 use lib.Dec.{eqb, lit<}
 use borrow.Author.Tests.{eqb-true, eq-eqb}
 use Rattle.flags.specs.Numbers.{bit, isSet}
-use Rattle.flags.specs.Word.{wordOf, flagsOf, Within, isFlags}
+use Rattle.flags.specs.Word.{wordOf, flagsOf, isFlags}
 use Rattle.flags.specs.declared.word.Flags.{Flags}
+
+-- a word with no bit set but those six, all together 08D5
+pub record Within (w : ℕ) : Type 0 where
+  pub bit1 : w / 2 % 2 ≡ 0
+  pub bit3 : w / 8 % 2 ≡ 0
+  pub bit5 : w / 32 % 2 ≡ 0
+  pub bits8to10 : w / 256 % 8 ≡ 0
+  pub above : w < 4096
 
 pub bit-le : (b : Bool) → bit b ≤ 1
 bit-le true = omega arith

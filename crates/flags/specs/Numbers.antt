@@ -36,6 +36,7 @@ abbrev pub valued : Bool → ℕ → ℕ → ℤ
 valued true n x = signed n x
 valued false n x = pos x
 
+-- how far that number is from 0
 abbrev pub magnitude : Bool → ℕ → ℕ → ℕ
 magnitude s n x = natAbs (valued s n x)
 

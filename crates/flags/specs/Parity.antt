@@ -9,6 +9,7 @@ use lib.Count.{ones}
 use lib.ListN.{length, getD}
 use Rattle.flags.specs.Numbers.{bit}
 
+-- the low eight bits hold an even number of ones
 unfoldable pub evenOnes : ℕ → Bool
 evenOnes x = eqb (ones (x % 256) % 2) 0
 

@@ -6,6 +6,7 @@ use Rattle.flags.specs.Numbers.{topSet}
 use Rattle.flags.specs.Parity.{evenOnes}
 use Rattle.flags.specs.declared.word.Flags.{Flags}
 
+-- S the top bit, Z that the result is 0, P by its low eight bits
 unfoldable pub szp : ℕ → ℕ → Flags → Flags
 szp n x f =
     record {

@@ -1,8 +1,7 @@
 -- The flags word: where each of the six flags stands in it, and what an operation that names some of them leaves of the others.
 -- Assumes nothing.
-use mathlib.Core.Path.{_≡_}
 use mathlib.Core.Bool.{Bool}
-use Prim.Native.Nat.{ℕ, _+_, _*_, _/_, _%_, _<_}
+use Prim.Native.Nat.{ℕ, _+_, _*_}
 use lib.Dec.{eqb}
 use Rattle.flags.specs.Numbers.{bit, isSet}
 use Rattle.flags.specs.declared.word.Flags.{Flags}
@@ -25,26 +24,21 @@ flagsOf w =
       overflow = isSet 11 w;
     }
 
--- a word with no bit set but those six, all together 08D5
-pub record Within (w : ℕ) : Type 0 where
-  pub bit1 : w / 2 % 2 ≡ 0
-  pub bit3 : w / 8 % 2 ≡ 0
-  pub bit5 : w / 32 % 2 ≡ 0
-  pub bits8to10 : w / 256 % 8 ≡ 0
-  pub above : w < 4096
-
--- the test of that: the flags of the word, put together, are the word
+-- no bit is set but those six, all together 08D5: the flags of the word, put together, are the word
 unfoldable pub isFlags : ℕ → Bool
 isFlags w = eqb (wordOf (flagsOf w)) w
 
+-- an operation that names C alone; the other five stay
 abbrev pub setC : Bool → Flags → Flags
 setC c f =
     record { carry = c; parity = f .parity; «aux_carry» = f .«aux_carry»; zero = f .zero; sign = f .sign; overflow = f .overflow }
 
+-- one that names C and O
 abbrev pub setCO : Bool → Bool → Flags → Flags
 setCO c o f =
     record { carry = c; parity = f .parity; «aux_carry» = f .«aux_carry»; zero = f .zero; sign = f .sign; overflow = o }
 
+-- one that names C, O and A
 abbrev pub setCOA : Bool → Bool → Bool → Flags → Flags
 setCOA c o a f =
     record { carry = c; parity = f .parity; «aux_carry» = a; zero = f .zero; sign = f .sign; overflow = o }

@@ -12,11 +12,13 @@ use Rattle.text.specs.declared.fields.Read.the-variants.{Fields as OfFields, Le
 use Rattle.answer.specs.Asked.{zeros, asked}
 use Rattle.answer.specs.declared.answer.Answer.{Answer}
 
+-- what a line that was read is answered: status 1, status 2, or by the rest of the table
 abbrev pub answerBy : Read → Answer
 answerBy (OfFields f) = asked (f .op) (f .mode) (f .flags) (f .x) (f .y)
 answerBy Length = zeros 1
 answerBy Digit = zeros 2
 
+-- what a line is answered
 unfoldable pub answerOf : List ℕ → Answer
 answerOf line = answerBy (readOf line)
 
@@ -24,6 +26,7 @@ answerOf line = answerBy (readOf line)
 abbrev pub textBy : Answer → List ℕ
 textBy a = written (a .status) (a .flags) (a .steps) (a .r) (a .s)
 
+-- the 19 bytes of what a line is answered
 unfoldable pub textOf : List ℕ → List ℕ
 textOf line = textBy (answerOf line)
 

@@ -13,6 +13,7 @@ pub record Done : Type 0 where
   pub lines : ℕ
   pub used : ℕ
 
+-- the three together
 abbrev pub done : List ℕ → ℕ → ℕ → Done
 done bytes lines used = record { bytes = bytes; lines = lines; used = used }
 

@@ -20,6 +20,7 @@ pub record Marked : Type 0 where
   pub gives : List ℕ
   pub says : List ℕ
 
+-- no flag set
 abbrev none : Flags
 none = flagsOf 0
 
@@ -30,6 +31,7 @@ onlyA = flagsOf 0x0010
 abbrev sum : ResultCoa → List ℕ
 sum r = r .result ∷ wordOf (setCOA (r .carry) (r .overflow) (r .auxCarry) none) ∷ []
 
+-- a shift, and the flags word that it leaves of none
 abbrev shifted : ResultCo → List ℕ
 shifted r = r .result ∷ wordOf (setCO (r .carry) (r .overflow) none) ∷ []
 
@@ -42,6 +44,7 @@ abbrev divided : Divided → List ℕ
 divided (accepted q r f t) = 0 ∷ q ∷ r ∷ t ∷ []
 divided (refused why f t) = 6 ∷ t ∷ []
 
+-- the list
 abbrev pub marked : List Marked
 marked =
     -- M1: ADC8 FF + 00 with C is 00, C A

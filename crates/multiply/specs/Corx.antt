@@ -5,11 +5,13 @@ use Prim.Native.Nat.{ℕ, _+_, _*_, _/_, _%_, _^_}
 use lib.Count.{ones}
 use Rattle.flags.specs.Numbers.{bit, isSet}
 
+-- the product: tmpa above, tmpc below
 pub record Halves : Type 0 where
   pub tmpa : ℕ
   pub tmpc : ℕ
   pub steps : ℕ
 
+-- b times c in two halves
 unfoldable pub corx : ℕ → ℕ → ℕ → ℕ → Halves
 corx n b c steps = record { tmpa = b * c / 2 ^ n; tmpc = b * c % 2 ^ n; steps = steps + (3 + 6 * n + ones c) }
 
@@ -20,9 +22,11 @@ pub record CorxRound : Type 0 where
   pub carry : Bool
   pub steps : ℕ
 
+-- the sum of a round
 abbrev pub added : ℕ → CorxRound → ℕ
 added b s = s .tmpa + cond (s .carry) b 0
 
+-- the round, with 5 steps and 1 more where it adds
 unfoldable pub corxRound : ℕ → ℕ → CorxRound → CorxRound
 corxRound n b s =
     record {

@@ -47,6 +47,7 @@ mulSteps n true rep x y =
     + cond (negates n rep x y) (cond (eqb y (top n)) 11 12) 0
     + cond (carries n true rep x y) 3 4
 
+-- the multiply chart: product, flags and steps
 unfoldable pub multiply : ℕ → Bool → Bool → ℕ → ℕ → Flags → Multiplied
 multiply n s rep x y f =
     record { product = productOf n s rep x y; flags = mulFlags n s rep x y f; steps = mulSteps n s rep x y }

@@ -11,6 +11,7 @@ pub record Pair : Type 0 where
   pub negFlag : Bool
   pub steps : ℕ
 
+-- what NEGATE leaves: the pair, the second operand, its carry, the flag and the steps
 pub record Negate : Type 0 where
   pub tmpa : ℕ
   pub tmpb : ℕ
@@ -41,6 +42,7 @@ second n b p =
       steps = p .steps + cond (topSet n b) 5 6;
     }
 
+-- skipped, the second operand alone; else the pair first
 unfoldable pub corNegate : ℕ → Pair → ℕ → Bool → Negate
 corNegate n p b true = second n b p
 corNegate n p b false = second n b (pair n p)

@@ -13,16 +13,20 @@ use Rattle.request.specs.declared.judge.Request.{Request}
 use Rattle.request.specs.declared.judge.Judged.{Judged}
 use Rattle.request.specs.declared.judge.Judged.the-variants.{Admitted, Unlisted, WrongMode, TooLarge}
 
+-- X and Y within their limits, and no flag outside 08D5
 abbrev pub within : Operation → ℕ → ℕ → ℕ → Bool
 within operation flags x y = leb x (xMost operation) && leb y (yMost operation) && isFlags flags
 
+-- a request in memory
 abbrev pub requestOf : Operation → ℕ → ℕ → ℕ → Request
 requestOf operation flags x y = record { operation = operation; flags = flagsOf flags; x = x; y = y }
 
+-- status 5 where something is too large
 abbrev pub judgedBy : Named → ℕ → ℕ → ℕ → Judged
 judgedBy (Names operation) flags x y = cond (within operation flags x y) (Admitted (requestOf operation flags x y)) TooLarge
 judgedBy NotListed flags x y = Unlisted
 judgedBy BadMode flags x y = WrongMode
 
+-- by op and mode, then by the limits
 unfoldable pub judged : ℕ → ℕ → ℕ → ℕ → ℕ → Judged
 judged op mode flags x y = judgedBy (operationOf op mode) flags x y

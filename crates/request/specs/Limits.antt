@@ -10,10 +10,12 @@ use Rattle.request.specs.declared.operation.Decimal.the-variants.{Aaa, A
 use Rattle.request.specs.declared.operation.Operation.{Operation}
 use Rattle.request.specs.declared.operation.Operation.the-variants.{Alu as OfAlu, Multiply, Divide, Decimal as OfDecimal}
 
+-- the largest number of a width
 abbrev pub largest : Width → ℕ
 largest Byte = 0xFF
 largest Word = 0xFFFF
 
+-- Y of an ALU operation: a right operand, a count, or none
 abbrev pub rightMost : Alu → Width → ℕ
 rightMost Add w = largest w
 rightMost Adc w = largest w
@@ -29,6 +31,7 @@ rightMost Rcl w = 0xFF
 rightMost Rcr w = 0xFF
 rightMost ShlAf w = 0xFF
 
+-- Y of an adjust: AAD's byte, or none
 abbrev pub adjustMost : Decimal → ℕ
 adjustMost Aaa = 0
 adjustMost Aas = 0
@@ -36,16 +39,19 @@ adjustMost Aad = 0xFF
 adjustMost Daa = 0
 adjustMost Das = 0
 
+-- a dividend has twice the width
 abbrev pub dividendMost : Width → ℕ
 dividendMost Byte = 0xFFFF
 dividendMost Word = 0xFFFF_FFFF
 
+-- the largest X
 abbrev pub xMost : Operation → ℕ
 xMost (OfAlu alu w) = largest w
 xMost (Multiply m) = largest (m .width)
 xMost (Divide m) = dividendMost (m .width)
 xMost (OfDecimal decimal) = 0xFFFF
 
+-- the largest Y
 abbrev pub yMost : Operation → ℕ
 yMost (OfAlu alu w) = rightMost alu w
 yMost (Multiply m) = largest (m .width)

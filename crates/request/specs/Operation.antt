@@ -40,10 +40,12 @@ ops =
     ∷ (0x1C, DecimalOp Das)
     ∷ []
 
+-- the first row of that op
 abbrev pub lookup : ℕ → List (ℕ × Listed) → Listed
 lookup op [] = Unlisted
 lookup op (row ∷ rows) = cond (eqb op (row .0)) (row .1) (lookup op rows)
 
+-- what an op alone names
 unfoldable pub listed : ℕ → Listed
 listed op = lookup op ops
 
@@ -51,6 +53,7 @@ listed op = lookup op ops
 abbrev pub widthOf : ℕ → Width
 widthOf mode = cond (isSet 0 mode) Word Byte
 
+-- what multiply and divide hold besides
 abbrev pub modeOf : ℕ → Mode
 modeOf mode = record { width = widthOf mode; signed = isSet 1 mode; rep = isSet 2 mode }
 
@@ -63,5 +66,6 @@ checked Divide mode = cond (ltb 0x07 mode) WrongMode (Names (OfDivide (modeOf mo
 checked (DecimalOp decimal) mode = cond (ltb 0x00 mode) WrongMode (Names (OfDecimal decimal))
 checked Unlisted mode = NotListed
 
+-- what op and mode name
 unfoldable pub operationOf : ℕ → ℕ → Named
 operationOf op mode = checked (listed op) mode

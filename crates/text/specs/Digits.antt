@@ -6,6 +6,7 @@ use Prim.Native.Nat.{ℕ, _+_, _-_, _<_}
 use lib.Dec.{leb, ltb}
 use lib.ListN.{length, getD}
 
+-- b is one of low to high
 abbrev pub between : ℕ → ℕ → ℕ → Bool
 between low high b = leb low b && leb b high
 
@@ -22,8 +23,10 @@ pub record Holds (rule-of : ℕ → ℕ) (places : ℕ) (table : List ℕ) : Typ
   pub size : length table ≡ places
   pub rule : (k : ℕ) → k < places → getD table k 0 ≡ rule-of k
 
+-- the digits, at every byte
 abbrev pub DigitTable : List ℕ → Type 0
 DigitTable = Holds digitOf 256
 
+-- the capitals, at every digit
 abbrev pub CapitalTable : List ℕ → Type 0
 CapitalTable = Holds capitalOf 16

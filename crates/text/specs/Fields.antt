@@ -13,9 +13,11 @@ use Rattle.text.specs.declared.fields.Read.the-variants.{Fields as OfFie
 unfoldable pub fourOf : ℕ → ℕ → ℕ → ℕ → ℕ
 fourOf a b c d = cond (ltb a 16 && ltb b 16 && ltb c 16 && ltb d 16) (a * 0x1000 + b * 0x100 + c * 0x10 + d) 0x1_0000
 
+-- the four from a place on
 unfoldable pub fourAt : List ℕ → ℕ → ℕ
 fourAt line at = fourOf (digitOf (getD line at 0)) (digitOf (getD line (at + 1) 0)) (digitOf (getD line (at + 2) 0)) (digitOf (getD line (at + 3) 0))
 
+-- five fours, the first of them op and mode, the third and fourth X
 unfoldable pub fieldsOf : ℕ → ℕ → ℕ → ℕ → ℕ → Read
 fieldsOf head flags upper lower y =
     cond (ltb head 0x1_0000 && ltb flags 0x1_0000 && ltb upper 0x1_0000 && ltb lower 0x1_0000 && ltb y 0x1_0000)
