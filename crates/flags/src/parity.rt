@@ -1,6 +1,6 @@
 // P of a byte: whether it holds an even number of ones, read from a table of 1 and 0.
 // The language has no static memory, so a constant table is built anew wherever it is indexed. It is
-// therefore built once, by whoever answers requests, and lent to everything below.
+// therefore built once for an operation that asks for P, and lent to everything below.
 ghost use mathlib.Core.Path.{_≡_};
 ghost use Rattle.flags.specs.Parity.{ParityTable, evenOnes};
 
