@@ -32,6 +32,10 @@ below d b m hm h = let hb : 0 < b = omega arith in div-lt-iff-lt-mul hb .1 (subs
 
 -- ---- what CORD's answer tells
 
+-- what a match binds: quotient, remainder, carry, last compare and steps
+abbrev pub bound : ℕ × (ℕ × (Bool × (ℕ × (ℕ × Unit {0})))) → CordAnswer
+bound g = Cord.accepted (g .0) (g .1 .0) (g .1 .1 .0) (g .1 .1 .1 .0) (g .1 .1 .1 .1 .0)
+
 module _ (n b d steps : ℕ) where
   pub when-accepted : {q r : ℕ} {c : Bool} {l t : ℕ} → Cord.accepted q r c l t ≡ cord n b d steps
       → (d / 2 ^ n < b) × (q ≡ d / b) × (r ≡ d % b) × (c ≡ ltb (d / b) (top n)) × (l ≡ lastCompare n b n d) × (t ≡ steps + cordSteps n b d)

@@ -3,6 +3,7 @@ pub mod RoadLaws
 pub mod IdivLaws
 pub mod FlagLaws
 pub mod DivLaws
+pub mod AfterPre
 pub mod Told
 pub mod Manual
 pub mod Demand3

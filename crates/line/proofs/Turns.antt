@@ -12,7 +12,7 @@ use lib.Seq.{take-at, drop-at, drop-drop, take-all, length-take-le}
 use borrow.Author.Tests.{lt-ltb, le-ltb, ltb-true, ltb-false}
 use borrow.Rule.Slice.PartMut.{putMid}
 use Rattle.text.specs.Fields.{readOf}
-use Rattle.text.specs.Lines.{lineLength, lineAt}
+use Rattle.text.specs.Lines.{lineLength, lineAt, lineEnd}
 use Rattle.text.specs.declared.fields.Read.{Read}
 use Rattle.text.proofs.ReadBack.{written-length}
 use Rattle.line.specs.One.{answerBy, textBy, answerOf, textOf}
@@ -80,7 +80,7 @@ pub ended : (out : List ℕ) (p lines used : ℕ) {d R : Done} → d ≡ done (d
 ended out p lines used h r = simp (h, take-append-drop, add-zero) at r
 
 -- the next line in the whole text
-module _ (text : List ℕ) (used end : ℕ) (e : Bool) (inside : used ≤ length text) (is-end : end ≡ used + lineLength (drop used text)) where
+module _ (text : List ℕ) (used end : ℕ) (e : Bool) (inside : used ≤ length text) (is-end : end ≡ lineEnd text used) where
   by-mark : (x : Bool) → cond x (length text) used ≡ used + cond x (length (drop used text)) 0
   by-mark true = simp length-drop (omega arith)
   by-mark false = omega arith

@@ -10,13 +10,13 @@ use lib.Seq.{getD-take, getD-drop, length-take-le}
 use borrow.Author.Tests.{eq-eqb, ne-eqb}
 use Rattle.text.specs.Digits.{digitOf}
 use Rattle.text.specs.Fields.{fourOf, fourAt, fieldsOf, fieldsAt, readOf}
-use Rattle.text.specs.Lines.{lineLength}
+use Rattle.text.specs.Lines.{lineLength, foundOf}
 use Rattle.text.specs.declared.fields.Fields.{Fields}
 use Rattle.text.specs.declared.fields.Read.{Read}
 use Rattle.text.specs.declared.fields.Read.the-variants.{Fields as OfFields, Length, Digit}
 
 -- a text whose first line feed is at n
-pub first-feed : (t : List ℕ) (n : ℕ) → n < length t → ((i : ℕ) → i < n → getD t i 0 ≡ 0x0A → ⊥) → getD t n 0 ≡ 0x0A → lineLength t ≡ n
+first-feed : (t : List ℕ) (n : ℕ) → n < length t → ((i : ℕ) → i < n → getD t i 0 ≡ 0x0A → ⊥) → getD t n 0 ≡ 0x0A → lineLength t ≡ n
 first-feed [] n h before e = absurd (omega arith)
 first-feed (b ∷ t) zero h before e = rw (eq-eqb b 0x0A e)
 first-feed (b ∷ t) (suc n) h before e =
@@ -116,7 +116,7 @@ module _ (text : List ℕ) (from : ℕ) where
       let d = moved (k + 3) (j + 3) (omega arith) (omega arith) in
       λ i. fourOf (digitOf (a i)) (digitOf (b i)) (digitOf (c i)) (digitOf (d i))
 
-  pub read-there : from + 20 ≤ length text → fieldsAt text from ≡ readOf twenty
+  read-there : from + 20 ≤ length text → fieldsAt text from ≡ readOf twenty
   unfolding readOf fieldsAt
   read-there h =
       let long : length twenty ≡ 20 = length-take-le 20 (drop from text) (simp length-drop (omega arith)) in
@@ -128,8 +128,16 @@ module _ (text : List ℕ) (from : ℕ) where
       rw (eq-eqb (length twenty) 20 long) (λ i. fieldsOf (a i) (b i) (c i) (d i) (e i))
 
   -- read as fields, and a line feed after them: a line
-  pub line-of-twenty : (f : Fields) → from + 20 < length text → getD text (from + 20) 0 ≡ 0x0A → fieldsAt text from ≡ OfFields f → lineLength (drop from text) ≡ 20
+  line-of-twenty : (f : Fields) → from + 20 < length text → getD text (from + 20) 0 ≡ 0x0A → fieldsAt text from ≡ OfFields f → lineLength (drop from text) ≡ 20
   line-of-twenty f h feed read =
       first-feed (drop from text) 20 (simp length-drop (omega arith))
       (λ i p e. fields-hold-none text from f read (from + i) (omega arith) (omega arith) (sym (getD-drop from text i 0) ∙ e))
       (getD-drop from text 20 0 ∙ feed)
+
+  -- what is found there
+  pub found-there : (f : Fields) → from + 20 < length text → getD text (from + 20) 0 ≡ 0x0A → fieldsAt text from ≡ OfFields f
+      → record { read = fieldsAt text from; end = from + 20 } ≡ foundOf text from
+  found-there f h feed read =
+      let n = sym (line-of-twenty f h feed read) in
+      let r = read-there (omega arith) in
+      λ i. record { read = (r ∙ ap (λ (k : ℕ). readOf (take k (drop from text))) n) i; end = from + n i }

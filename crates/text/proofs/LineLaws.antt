@@ -1,12 +1,16 @@
 -- The length of the line that starts at a place: at a line feed, before another byte, and at the text's end. Assumes nothing.
 use mathlib.Core.Path.{_≡_}
-use mathlib.Core.List.{List}
+use mathlib.Core.Bool.{Bool, true, false, cond}
+use mathlib.Core.List.{List, [], _∷_}
 use Prim.Native.Nat.{ℕ, suc, _+_, _<_, _≤_}
+use native.Mathlib.Nat.{le-refl}
 use native.Mathlib.Numerals.{add-one}
-use lib.ListN.{length, getD, drop, drop-of-length-le}
+use native.Mathlib.Omega.{arith}
+use lib.Dec.{eqb}
+use lib.ListN.{length, getD, drop, length-drop, drop-of-length-le}
 use lib.Seq.{drop-cons}
 use borrow.Author.Tests.{eq-eqb, ne-eqb}
-use Rattle.text.specs.Lines.{lineLength}
+use Rattle.text.specs.Lines.{lineLength, lineEnd}
 
 module _ (text : List ℕ) (at : ℕ) where
   pub at-feed : at < length text → getD text at 0 ≡ 0x0A → lineLength (drop at text) ≡ 0
@@ -17,3 +21,15 @@ module _ (text : List ℕ) (at : ℕ) where
 
   pub at-end : length text ≤ at → lineLength (drop at text) ≡ 0
   at-end h = rw (drop-of-length-le text h)
+
+shorter : (x : Bool) (n m : ℕ) → n ≤ m → cond x 0 (suc n) ≤ suc m
+shorter true n m h = omega arith
+shorter false n m h = omega arith
+
+length-within : (text : List ℕ) → lineLength text ≤ length text
+length-within [] = le-refl 0
+length-within (b ∷ text) = shorter (eqb b 0x0A) (lineLength text) (length text) (length-within text)
+
+-- a line ends in its text
+pub end-within : (text : List ℕ) (from : ℕ) → from ≤ length text → lineEnd text from ≤ length text
+end-within text from h = omega (arith, length-within (drop from text), length-drop from text)

@@ -1,10 +1,9 @@
 // A line of a text, found and read.
 ghost use mathlib.Core.Path.{_≡_};
-ghost use Prim.Native.Nat.{_+_, _≤_};
-ghost use lib.ListN.{length, drop};
+ghost use Prim.Native.Nat.{_≤_};
+ghost use lib.ListN.{length};
 ghost use Rattle.text.specs.Digits.{DigitTable};
-ghost use Rattle.text.specs.Fields.{readOf};
-ghost use Rattle.text.specs.Lines.{lineLength, lineAt};
+ghost use Rattle.text.specs.Lines.{foundOf};
 use crate::fields;
 use crate::fields::Read;
 use crate::lines;
@@ -18,7 +17,7 @@ pub struct Found {
 fn sought(table: &[u8; 256], text: &[u8], from: usize) -> Found
     requires { ⌜ DigitTable (now table) ⌝ }
     requires { ⌜ from ≤ length (now text) ⌝ }
-    ensures { λ r. ⌜ (r .read ≡ readOf (lineAt (now (text .entry)) from)) × (r .end ≡ from + lineLength (drop from (now (text .entry)))) × (r .end ≤ length (now (text .entry))) ⌝ }
+    ensures { λ r. ⌜ r ≡ foundOf (now (text .entry)) from ⌝ }
 {
     let end = lines::line_end(text, from);
     Found {
@@ -32,7 +31,7 @@ fn sought(table: &[u8; 256], text: &[u8], from: usize) -> Found
 pub fn read_at(table: &[u8; 256], text: &[u8], from: usize) -> Found
     requires { ⌜ DigitTable (now table) ⌝ }
     requires { ⌜ from ≤ length (now text) ⌝ }
-    ensures { λ r. ⌜ (r .read ≡ readOf (lineAt (now (text .entry)) from)) × (r .end ≡ from + lineLength (drop from (now (text .entry)))) × (r .end ≤ length (now (text .entry))) ⌝ }
+    ensures { λ r. ⌜ r ≡ foundOf (now (text .entry)) from ⌝ }
 {
     if text.len() - from < 21 {
         return sought(table, text, from);

@@ -1,4 +1,4 @@
-use borrow.Author.Needs.{needs}
+-- `replay::same_answer` meets its contract: an answer's 18 digits do not depend on what stood in its room. Assumes nothing.
 use mathlib.Core.Path.{_≡_, refl, sym, ap, _∙_}
 use mathlib.Core.Bool.{false≢true}
 use mathlib.Core.List.{List}
@@ -6,14 +6,11 @@ use Prim.Native.Nat.{ℕ, _-_, _≤_}
 use native.Mathlib.Omega.{arith}
 use lib.ListN.{length, take, drop, replicate, length-drop}
 use lib.Seq.{length-take-le, take-all, take-append-le}
+use borrow.Author.Needs.{needs}
 use Rattle.line.specs.One.{textOf, answered}
 use Rattle.line.proofs.Turns.{textOf-length}
 use Rattle.replay.proofs.same_answer.Statement.{statement}
 use Rattle.replay.proofs.same_answer.Tie as tie
-use Rattle.replay.proofs.same_answer.Reads as reads
-use Rattle.replay.proofs.same_answer.Lts as lts
-use Rattle.check.proofs.same.Reads as same-reads
-use Rattle.line.proofs.one.answer_line.Reads as answer-line-reads
 
 -- the 18 digits of an answer, where the request is what stands behind the 19th byte
 digits-are : (recorded room : List ℕ) → length room ≡ 19 → take 18 (answered (take (length recorded - 19) (drop 19 recorded)) room) ≡ take 18 (textOf (drop 19 recorded))
@@ -26,21 +23,6 @@ digits-are recorded room n =
 returns : tie.Need-returns
 returns c h = absurd (false≢true h)
 
-sub-answer-line : tie.Need-sub-answer-line
-sub-answer-line c = search needs
-
-part-answer-line-start : tie.Need-part-answer-line-start
-part-answer-line-start c = search needs
-
-part-answer-line-end : tie.Need-part-answer-line-end
-part-answer-line-end c = search needs
-
-slice-aggregate-answer-line : tie.Need-slice-aggregate-answer-line
-slice-aggregate-answer-line c = search needs
-
-answer-line-requires : tie.Need-answer-line-requires
-answer-line-requires c κs = search needs
-
 slice-aggregate-same : tie.Need-slice-aggregate-same
 slice-aggregate-same c = sym (length-take-le 18 (c .before .before .before .before .before .before .before .args .recorded .now) (omega arith))
 
@@ -50,9 +32,6 @@ array-share-prefix-answer c = search needs
 slice-aggregate-same-2 : tie.Need-slice-aggregate-same-2
 slice-aggregate-same-2 c = sym (length-take-le 18 (c .before .before .before .answer-line .last .1 .0) (array-share-prefix-answer (c .before)))
 
-same-requires : tie.Need-same-requires
-same-requires c κs = search needs
-
 returns-2 : tie.Need-returns-2
 returns-2 c h =
     let line = c .before .before .before .before .answer-line in
@@ -61,15 +40,5 @@ returns-2 c h =
 pub same-answer-spec : {M : Type 1} → statement M
 same-answer-spec =
     tie.close
-    (tie.spec
-    returns
-    sub-answer-line
-    part-answer-line-start
-    part-answer-line-end
-    slice-aggregate-answer-line
-    answer-line-requires
-    slice-aggregate-same
-    array-share-prefix-answer
-    slice-aggregate-same-2
-    same-requires
-    returns-2)
+    (tie.spec returns (λ c. search needs) (λ c. search needs) (λ c. search needs) (λ c. search needs) (λ c κs. search needs) slice-aggregate-same
+    array-share-prefix-answer slice-aggregate-same-2 (λ c κs. search needs) returns-2)

@@ -1,13 +1,12 @@
 -- `divide::div::unsigned_div16` meets its contract, by what CORD's answer tells at the width 16. Assumes nothing.
 use mathlib.Core.Path.{_≡_, sym, ap, _∙_}
-use mathlib.Core.Bool.{Bool}
 use Prim.Native.Nat.{ℕ}
 use native.Mathlib.Nat.{div-add-mod'}
 use native.Mathlib.Omega.{arith}
 use borrow.Author.Needs.{needs}
-use Rattle.divide.specs.Cord.{CordAnswer, accepted, cord}
+use Rattle.divide.specs.Cord.{cord}
 use Rattle.divide.specs.Views.{cord16Answer}
-use Rattle.divide.proofs.DivLaws.{few-steps, unsigned-refused, unsigned-accepted}
+use Rattle.divide.proofs.DivLaws.{bound, few-steps, unsigned-refused, unsigned-accepted}
 use Rattle.divide.proofs.div.unsigned_div16.Statement.{statement}
 use Rattle.divide.proofs.div.unsigned_div16.Tie as tie
 
@@ -15,11 +14,7 @@ use Rattle.divide.proofs.div.unsigned_div16.Tie as tie
 cord-at : (c : tie.After-cord16) → cord16Answer (c .cord16 .result) ≡ cord 16 (c .before .args .divisor) (c .before .args .dividend) 5
 cord-at c = c .cord16 .ensures ∙ ap (λ (x : ℕ). cord 16 (c .before .args .divisor) x 5) (div-add-mod' (c .before .args .dividend) 65536)
 
--- what the match binds: quotient, remainder, carry, last compare and steps
-abbrev told : ℕ × (ℕ × (Bool × (ℕ × (ℕ × Unit {0})))) → CordAnswer
-told g = accepted (g .0) (g .1 .0) (g .1 .1 .0) (g .1 .1 .1 .0) (g .1 .1 .1 .1 .0)
-
-accepted-at : (c : tie.After-quotient) → told (c .quotient .given .0) ≡ cord 16 (c .before .before .before .args .divisor) (c .before .before .before .args .dividend) 5
+accepted-at : (c : tie.After-quotient) → bound (c .quotient .given .0) ≡ cord 16 (c .before .before .before .args .divisor) (c .before .before .before .args .dividend) 5
 accepted-at c = ap cord16Answer (sym (c .quotient .given .1)) ∙ cord-at (c .before .before)
 
 add-t17 : tie.Need-add-t17

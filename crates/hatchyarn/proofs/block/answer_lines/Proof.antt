@@ -1,17 +1,13 @@
-use Rattle.hatchyarn.proofs.block.answer_lines.Statement.{statement}
-use Rattle.hatchyarn.proofs.block.answer_lines.Tie as tie
-use Rattle.hatchyarn.proofs.block.answer_lines.Reads as reads
-use Rattle.hatchyarn.proofs.block.answer_lines.Lts as lts
-use Rattle.io.proofs.write_all.Reads as write-all-reads
-use Rattle.line.proofs.run.run.Reads as run-reads
-use Rattle.os.proofs.fail.Reads as fail-reads
-use borrow.Author.Needs.{needs}
+-- `hatchyarn::block::answer_lines` meets its contract: a run's answers lie within the room, and what it used within the text. Assumes nothing.
 use mathlib.Core.Path.{_≡_, sym}
 use Prim.Native.Nat.{_+_, _-_, _*_, _/_, _≤_}
 use native.Mathlib.Omega.{arith}
 use lib.ListN.{length, take, drop, length-drop}
 use lib.Seq.{length-take-le}
+use borrow.Author.Needs.{needs}
 use Rattle.line.proofs.RunLaws.{ran-within}
+use Rattle.hatchyarn.proofs.block.answer_lines.Statement.{statement}
+use Rattle.hatchyarn.proofs.block.answer_lines.Tie as tie
 
 abbrev Inv-loop : tie.InvT-loop
 Inv-loop text room₀ at-end start₀ t8 room start = (start ≤ length text) × (length room ≡ length room₀)
@@ -30,21 +26,6 @@ ran c =
     let n : length part ≡ length text - l .start = length-take-le _ (drop (l .start) text) (simp length-drop (omega arith)) in
     (omega arith, omega arith)
 
-loop-holds : tie.Need-loop-holds Inv-loop μ-loop
-loop-holds c = search needs
-
-sub-run : tie.Need-sub-run Inv-loop μ-loop
-sub-run c = search needs
-
-part-run-start : tie.Need-part-run-start Inv-loop μ-loop
-part-run-start c = search needs
-
-part-run-end : tie.Need-part-run-end Inv-loop μ-loop
-part-run-end c = search needs
-
-run-requires : tie.Need-run-requires Inv-loop μ-loop
-run-requires c κs = search needs
-
 mul-n : tie.Need-mul-n Inv-loop μ-loop
 mul-n c = omega (arith, ran (c .before .before .before))
 
@@ -56,65 +37,15 @@ slice-aggregate-write-all c =
     let r = c .before .before .before .before .before .run in
     sym (length-take-le (r .result .lines * 19) (r .last .1 .0) (slice-reshare-prefix-write-all (c .before)))
 
-write-all-requires : tie.Need-write-all-requires Inv-loop μ-loop
-write-all-requires c κs = search needs
-
-slice-aggregate-fail : tie.Need-slice-aggregate-fail Inv-loop μ-loop
-slice-aggregate-fail c = search needs
-
-fail-requires : tie.Need-fail-requires Inv-loop μ-loop
-fail-requires c κs = search needs
-
-same-length : tie.Need-same-length Inv-loop μ-loop
-same-length c = search needs
-
-returns : tie.Need-returns Inv-loop μ-loop
-returns c = search needs
-
 add-start : tie.Need-add-start Inv-loop μ-loop
 add-start c = omega (arith, ran (c .before .before .before .before .before .before .before))
-
-loop-less : tie.Need-loop-less Inv-loop μ-loop
-loop-less c = search needs
 
 loop-again : tie.Need-loop-again Inv-loop μ-loop
 loop-again c = (omega (arith, ran (c .before .before .before .before .before .before .before)), search needs)
 
-same-length-2 : tie.Need-same-length-2 Inv-loop μ-loop
-same-length-2 c = search needs
-
-returns-2 : tie.Need-returns-2 Inv-loop μ-loop
-returns-2 c = search needs
-
-same-length-3 : tie.Need-same-length-3 Inv-loop μ-loop
-same-length-3 c = search needs
-
-returns-3 : tie.Need-returns-3 Inv-loop μ-loop
-returns-3 c = search needs
-
 pub answer-lines-spec : {M : Type 1} → statement M
 answer-lines-spec =
     tie.close
-    (tie.spec
-    Inv-loop
-    μ-loop
-    loop-holds
-    sub-run
-    part-run-start
-    part-run-end
-    run-requires
-    mul-n
-    slice-reshare-prefix-write-all
-    slice-aggregate-write-all
-    write-all-requires
-    slice-aggregate-fail
-    fail-requires
-    same-length
-    returns
-    add-start
-    loop-less
-    loop-again
-    same-length-2
-    returns-2
-    same-length-3
-    returns-3)
+    (tie.spec Inv-loop μ-loop (λ c. search needs) (λ c. search needs) (λ c. search needs) (λ c. search needs) (λ c κs. search needs) mul-n
+    slice-reshare-prefix-write-all slice-aggregate-write-all (λ c κs. search needs) (λ c. search needs) (λ c κs. search needs) (λ c. search needs)
+    (λ c. search needs) add-start (λ c. search needs) loop-again (λ c. search needs) (λ c. search needs) (λ c. search needs) (λ c. search needs))

@@ -17,13 +17,5 @@ returns-3 c = c .refused2 .ensures ∙ ap answerBy (sym (c .before .enum-told2 .
 pub answer-read-spec : {M : Type 1} → statement M
 answer-read-spec =
     tie.close
-    (tie.spec
-    (λ c. search needs)
-    (λ c κs. search needs)
-    (λ c. search needs)
-    (λ c κs. search needs)
-    (λ c. search needs)
-    (λ c κs. search needs)
-    returns
-    returns-2
-    returns-3)
+    (tie.spec (λ c. search needs) (λ c κs. search needs) (λ c. search needs) (λ c κs. search needs) (λ c. search needs) (λ c κs. search needs) returns
+    returns-2 returns-3)

@@ -1,11 +1,12 @@
 -- `line::run::run_by` meets its contract. The invariant: what is done, then the run over the rest, is the whole run. Assumes nothing.
-use mathlib.Core.Path.{_≡_, refl, _∙_}
+use mathlib.Core.Path.{_≡_, refl, ap, _∙_}
 use Prim.Native.Nat.{_+_, _-_, _*_, _/_, _≤_}
 use native.Mathlib.Nat.{sub-zero, zero-add}
 use native.Mathlib.Omega.{arith}
 use lib.ListN.{length, take, drop, length-drop}
 use borrow.Author.Needs.{needs}
 use borrow.Rule.Slice.PartMut.{same-len-mid}
+use Rattle.text.specs.declared.found.Found.{Found}
 use Rattle.line.specs.Run.{done, after, runOf}
 use Rattle.line.proofs.Turns.{takes, takes-within, stops, full, ended, next-takes, again}
 use Rattle.line.proofs.run.run_by.Statement.{statement}
@@ -27,7 +28,7 @@ next : (c : tie.After-next-start Inv-loop μ-loop)
 next c =
     let l = c .before .before .before .loop in
     let a = c .before .before .before .before .before .before .args in
-    c .next-start .ensures ∙ next-takes (a .text .now) (l .used) (c .before .read-at .result .end) (a .at-end) (l .inv .1) (c .before .read-at .ensures .1)
+    c .next-start .ensures ∙ next-takes (a .text .now) (l .used) (c .before .read-at .result .end) (a .at-end) (l .inv .1) (ap (λ (f : Found). f .end) (c .before .read-at .ensures))
 
 loop-again : tie.Need-loop-again Inv-loop μ-loop
 loop-again c =
@@ -42,7 +43,7 @@ loop-again c =
       omega (arith, next n, takes-within (a .at-end) rest, length-drop (l .used) (a .text .now)),
       refl,
       same-len-mid at k (l .out) (lent .last .1 .1 .0) (lent .kept .1 .1 .0) ∙ l .inv .3,
-      again (a .text .now) (l .out) (lent .last .1 .1 .0) (length (a .out .now) / 19) (l .answered) (l .used) (n .next-start .result) k (a .at-end) (n .before .read-at .result .read) (omega arith) (n .before .read-at .ensures .0) (next n) (c .before .before .before .before .if1 .left) (omega arith) (omega arith) (lent .ensures .1) (l .inv .4),
+      again (a .text .now) (l .out) (lent .last .1 .1 .0) (length (a .out .now) / 19) (l .answered) (l .used) (n .next-start .result) k (a .at-end) (n .before .read-at .result .read) (omega arith) (ap (λ (f : Found). f .read) (n .before .read-at .ensures)) (next n) (c .before .before .before .before .if1 .left) (omega arith) (omega arith) (lent .ensures .1) (l .inv .4),
     )
 
 returns : tie.Need-returns Inv-loop μ-loop
@@ -60,22 +61,6 @@ returns-2 c =
 pub run-by-spec : {M : Type 1} → statement M
 run-by-spec =
     tie.close
-    (tie.spec
-    Inv-loop
-    μ-loop
-    loop-holds
-    (λ c κs. search needs)
-    (λ c κs. search needs)
-    (λ c. omega arith)
-    (λ c. omega arith)
-    (λ c. omega arith)
-    (λ c. omega arith)
-    (λ c. omega arith)
-    (λ c κs. search needs)
-    (λ c. omega arith)
-    (λ c. omega arith)
-    loop-again
-    (λ c. search needs)
-    returns
-    (λ c. search needs)
-    returns-2)
+    (tie.spec Inv-loop μ-loop loop-holds (λ c κs. search needs) (λ c κs. search needs) (λ c. omega arith) (λ c. omega arith) (λ c. omega arith)
+    (λ c. omega arith) (λ c. omega arith) (λ c κs. search needs) (λ c. omega arith) (λ c. omega arith) loop-again (λ c. search needs) returns
+    (λ c. search needs) returns-2)

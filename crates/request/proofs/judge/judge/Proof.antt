@@ -27,6 +27,5 @@ wrong-mode c = judged-as _ _ _ _ _ (c .before .before .name .ensures) (c .enum-t
 pub judge-spec : {M : Type 1} → statement M
 judge-spec =
     tie.close
-    (tie.spec (λ c κs. search needs) (λ c. search needs) (λ c κs. search needs) (λ c κs. search needs) (λ c. search needs) (λ c. search needs) admits refuses
-    unlisted
-    wrong-mode)
+    (tie.spec (λ c κs. search needs) (λ c. search needs) (λ c κs. search needs) (λ c κs. search needs) (λ c. search needs) (λ c. search needs) admits
+    refuses unlisted wrong-mode)

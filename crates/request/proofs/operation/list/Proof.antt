@@ -8,8 +8,7 @@ pub list-spec : {M : Type 1} → statement M
 unfolding ops listed
 list-spec =
     tie.close
-    (tie.spec
-    (λ c. at-row (c .match .keys1)) (λ c. at-row (c .match .keys2)) (λ c. at-row (c .match .keys3)) (λ c. at-row (c .match .keys4))
+    (tie.spec (λ c. at-row (c .match .keys1)) (λ c. at-row (c .match .keys2)) (λ c. at-row (c .match .keys3)) (λ c. at-row (c .match .keys4))
     (λ c. at-row (c .match .keys5)) (λ c. at-row (c .match .keys6)) (λ c. at-row (c .match .keys7)) (λ c. at-row (c .match .keys8))
     (λ c. at-row (c .match .keys9)) (λ c. at-row (c .match .keys10)) (λ c. at-row (c .match .keys11)) (λ c. at-row (c .match .keys12))
     (λ c. at-row (c .match .keys13)) (λ c. at-row (c .match .keys14)) (λ c. at-row (c .match .keys15)) (λ c. at-row (c .match .keys16))

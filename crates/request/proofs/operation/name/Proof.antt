@@ -58,6 +58,5 @@ unlisted c = named _ _ (c .before .before .list .ensures) (c .enum-told3 .given 
 pub name-spec : {M : Type 1} → statement M
 name-spec =
     tie.close
-    (tie.spec (λ c κs. search needs) (λ c. search needs) alu-over (λ c κs. search needs) (λ c. search needs) multiply-over (λ c κs. search needs) (λ c. search needs)
-    divide-over
-    (λ c κs. search needs) (λ c. search needs) decimal-over (λ c. search needs) alu multiply divide decimal unlisted)
+    (tie.spec (λ c κs. search needs) (λ c. search needs) alu-over (λ c κs. search needs) (λ c. search needs) multiply-over (λ c κs. search needs)
+    (λ c. search needs) divide-over (λ c κs. search needs) (λ c. search needs) decimal-over (λ c. search needs) alu multiply divide decimal unlisted)

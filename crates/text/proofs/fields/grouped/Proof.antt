@@ -24,12 +24,5 @@ returns-2 c =
 pub grouped-spec : {M : Type 1} → statement M
 grouped-spec =
     tie.close
-    (tie.spec
-    (λ c. search needs)
-    (λ c. search needs)
-    (λ c. search needs)
-    (λ c. omega (arith, ltb-true))
-    (λ c. omega (arith, ltb-true))
-    (λ c. search needs)
-    returns
-    returns-2)
+    (tie.spec (λ c. search needs) (λ c. search needs) (λ c. search needs) (λ c. omega (arith, ltb-true)) (λ c. omega (arith, ltb-true))
+    (λ c. search needs) returns returns-2)

@@ -19,7 +19,7 @@ returns : tie.Need-returns Inv-loop μ-loop
 returns c =
     let l = c .before .before .before in
     let e = at-feed (l .before .args .text .now) (l .loop .at) (c .before .before .loop-test .taken) (c .if1 .taken) in
-    (omega (arith, e), omega arith)
+    omega (arith, e)
 
 loop-again : tie.Need-loop-again Inv-loop μ-loop
 loop-again c =
@@ -28,18 +28,9 @@ loop-again c =
     (omega arith, omega (arith, e))
 
 returns-2 : tie.Need-returns-2 Inv-loop μ-loop
-returns-2 c = (omega (arith, at-end (c .before .before .args .text .now) (c .before .loop .at) (c .loop-test .left)), omega arith)
+returns-2 c = omega (arith, at-end (c .before .before .args .text .now) (c .before .loop .at) (c .loop-test .left))
 
 pub line-end-spec : {M : Type 1} → statement M
 line-end-spec =
     tie.close
-    (tie.spec
-    Inv-loop
-    μ-loop
-    (λ c. search needs)
-    (λ c. search needs)
-    returns
-    (λ c. search needs)
-    (λ c. search needs)
-    loop-again
-    returns-2)
+    (tie.spec Inv-loop μ-loop (λ c. search needs) (λ c. search needs) returns (λ c. search needs) (λ c. search needs) loop-again returns-2)

@@ -18,17 +18,6 @@ returns c =
 pub put-four-spec : {M : Type 1} → statement M
 put-four-spec =
     tie.close
-    (tie.spec
-    (λ c κs. search needs)
-    (λ c. search needs)
-    (λ c κs. search needs)
-    (λ c. search needs)
-    (λ c. simp length-set (omega arith))
-    (λ c κs. search needs)
-    (λ c. search needs)
-    (λ c. simp length-set (omega arith))
-    (λ c κs. search needs)
-    (λ c. search needs)
-    (λ c. simp length-set (omega arith))
-    (λ c. simp length-set)
-    returns)
+    (tie.spec (λ c κs. search needs) (λ c. search needs) (λ c κs. search needs) (λ c. search needs) (λ c. simp length-set (omega arith))
+    (λ c κs. search needs) (λ c. search needs) (λ c. simp length-set (omega arith)) (λ c κs. search needs) (λ c. search needs)
+    (λ c. simp length-set (omega arith)) (λ c. simp length-set) returns)

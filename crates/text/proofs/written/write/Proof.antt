@@ -56,17 +56,9 @@ returns c =
 pub write-spec : {M : Type 1} → statement M
 write-spec =
     tie.close
-    (tie.spec
-    (λ c. search needs)
-    (λ c κs. search needs)
-    (λ c. search needs)
-    (λ c. search needs)
-    (λ c κs. search needs)
-    (λ c. simp length-set (omega arith))
-    (λ c κs. (search needs, simp length-set (omega arith)))
+    (tie.spec (λ c. search needs) (λ c κs. search needs) (λ c. search needs) (λ c. search needs) (λ c κs. search needs)
+    (λ c. simp length-set (omega arith)) (λ c κs. (search needs, simp length-set (omega arith)))
     (λ c κs. (search needs, omega (arith, long (c .before .before .before))))
     (λ c κs. (search needs, omega (arith, long2 (c .before .before .before))))
-    (λ c κs. (search needs, omega (arith, long3 (c .before .before .before))))
-    (λ c. omega (arith, long4 (c .before .before)))
-    (λ c. simp length-set (long4 (c .before .before)))
-    returns)
+    (λ c κs. (search needs, omega (arith, long3 (c .before .before .before)))) (λ c. omega (arith, long4 (c .before .before)))
+    (λ c. simp length-set (long4 (c .before .before))) returns)

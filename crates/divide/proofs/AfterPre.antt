@@ -1,0 +1,50 @@
+-- A signed divide over the width n once PREIDIV has answered: what CORD has to answer then, and what the rest makes of it. Assumes nothing.
+use mathlib.Core.Path.{_≡_}
+use mathlib.Core.Bool.{Bool, true}
+use Prim.Native.Nat.{ℕ, _+_, _*_, _/_, _%_, _^_, _≤_, _<_}
+use native.Mathlib.Omega.{arith}
+use Rattle.flags.specs.declared.word.Flags.{Flags}
+use Rattle.negate.specs.Negate.{Negate}
+use Rattle.divide.specs.Cord as Cord
+use Rattle.divide.specs.Cord.{CordAnswer, cord}
+use Rattle.divide.specs.Idiv.{PostAnswer, preIdiv, postIdiv}
+use Rattle.divide.specs.Flags.{compareFlags}
+use Rattle.divide.specs.Divide.{refused, big, small, preSteps, divide, finished}
+use Rattle.divide.specs.declared.div.Refusal.the-variants.{FirstCompare}
+use Rattle.divide.proofs.DivLaws.{few-steps, pre-divisor, pre-flag, pre-few, pre-most, cord-of-pre, signed-refused, signed-finished}
+
+-- the operands, and what PREIDIV hands on
+pub record AfterPre (n : ℕ) : Type 0 where
+  pub dividend : ℕ
+  pub divisor : ℕ
+  pub rep : Bool
+  pub pre : Negate
+  pub some : 0 < n
+  pub wide : dividend < 2 ^ (n + n)
+  pub fits : divisor < 2 ^ n
+  pub handed : pre ≡ preIdiv n (record { tmpa = dividend / 2 ^ n; tmpc = dividend % 2 ^ n; negFlag = rep; steps = 4 }) divisor
+
+module _ (n : ℕ) (s : AfterPre n) where
+  -- what CORD has to answer
+  abbrev pub onward : CordAnswer
+  onward = cord n (small n true (s .divisor)) (big n true (s .dividend)) (6 + preSteps n (s .dividend) (s .divisor))
+
+  pub few-before : s .pre .steps ≤ 17
+  few-before = pre-few n (s .dividend) (s .divisor) (s .rep) (s .some) (s .wide) (s .fits) (s .handed)
+
+  pub goes-on : {a : CordAnswer} → a ≡ cord n (s .pre .tmpb) (s .pre .tmpa * 2 ^ n + s .pre .tmpc) (s .pre .steps + 2) → a ≡ onward
+  goes-on = cord-of-pre n (s .dividend) (s .divisor) (s .rep) (s .some) (s .wide) (s .fits) (s .handed)
+
+  pub refuses : (f : Flags) {t : ℕ} → Cord.refused t ≡ onward → refused FirstCompare f t ≡ divide n true (s .rep) (s .dividend) (s .divisor) f
+  refuses = signed-refused n (s .dividend) (s .divisor) (s .rep) (s .some) (s .wide) (s .fits)
+
+  module _ {q r : ℕ} {c : Bool} {l t : ℕ} (e : Cord.accepted q r c l t ≡ onward) where
+    pub few-after : n ≤ 16 → t ≤ 175
+    few-after h = omega (arith, few-steps n _ _ (6 + preSteps n (s .dividend) (s .divisor)) h e, pre-most n (s .dividend) (s .divisor))
+
+    pub finishes : (f : Flags) (p : PostAnswer) → p ≡ postIdiv n r (s .dividend / 2 ^ n) q c (s .pre .negFlag) (t + 3) → {g : Flags} → g ≡ compareFlags n l (s .pre .tmpb) c f
+        → finished p g f ≡ divide n true (s .rep) (s .dividend) (s .divisor) f
+    finishes f p ep eg =
+        signed-finished n (s .dividend) (s .divisor) (s .rep) (s .some) (s .wide) (s .fits) f e
+        (pre-flag n (s .dividend) (s .divisor) (s .rep) (s .some) (s .wide) (s .fits) (s .handed)) p ep
+        (pre-divisor n (s .dividend) (s .divisor) (s .rep) (s .some) (s .wide) (s .fits) (s .handed)) eg
