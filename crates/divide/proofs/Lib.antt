@@ -1,4 +1,5 @@
 pub mod CordLaws
+pub mod Turning
 pub mod RoadLaws
 pub mod IdivLaws
 pub mod FlagLaws

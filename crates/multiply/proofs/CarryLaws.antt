@@ -14,9 +14,8 @@ use Rattle.flags.proofs.Powers.{top-twice}
 use Rattle.flags.proofs.SignedLaws.{above, below, fits-diff, TopIs, top-is, same-test}
 use Rattle.flags.proofs.SignLaws.{signOf, plain, signed-by, neg-sign, mul-sign, wrapped-sign, plain-lt}
 use Rattle.alu.specs.Sum.{adc}
-use Rattle.multiply.specs.Corx.{Halves}
 use Rattle.multiply.specs.Routines.{signSum}
-use Rattle.multiply.specs.Multiply.{returned, productOf, halvesOf, carries, negates}
+use Rattle.multiply.specs.Multiply.{returned, productOf, halvesSum, carries, negates}
 
 -- the upper half that only repeats the lower half's top bit
 abbrev pub extension : ℕ → ℕ → ℕ
@@ -51,11 +50,11 @@ same-eq : (a b c d : ℕ) → (a ≡ b → c ≡ d) → (c ≡ d → a ≡ b) �
 same-eq a b c d f g = same-test (eqb a b) (eqb c d) (λ e. eq-eqb c d (f (eqb-true a b e))) (λ e. ne-eqb c d (λ p. eqb-false a b e (g p)))
 
 -- it is 0 exactly where the upper half extends the lower
-pub sum-tells : (n : ℕ) (h : Halves) → 0 < n → n ≤ 16 → h .tmpa < 2 ^ n → eqb (signSum n h .result) 0 ≡ eqb (h .tmpa) (extension n (h .tmpc))
+pub sum-tells : (n upper lower : ℕ) → 0 < n → n ≤ 16 → upper < 2 ^ n → eqb (signSum n upper lower .result) 0 ≡ eqb upper (extension n lower)
 unfolding adc
-sum-tells n h hn h16 hu =
-    ap (λ (w : ℕ). eqb ((w + 0 + bit (topSet n (h .tmpc))) % 2 ^ 16) 0) (word-is n (h .tmpa) hn h16 hu)
-    ∙ by (top-twice n hn) (pow-pos (n - 1)) (pow-mono h16) (h .tmpa) (topSet n (h .tmpa)) (topSet n (h .tmpc)) hu (top-is n (h .tmpa))
+sum-tells n upper lower hn h16 hu =
+    ap (λ (w : ℕ). eqb ((w + 0 + bit (topSet n lower)) % 2 ^ 16) 0) (word-is n upper hn h16 hu)
+    ∙ by (top-twice n hn) (pow-pos (n - 1)) (pow-mono h16) upper (topSet n upper) (topSet n lower) hu (top-is n upper)
   where
     by : top n * 2 ≡ 2 ^ n → 0 < top n → 2 ^ n ≤ 2 ^ 16 → (u : ℕ) (s l : Bool) → u < 2 ^ n → TopIs s (top n) u
         → eqb ((cond s (2 ^ 16 - (2 ^ n - u)) u + 0 + bit l) % 2 ^ 16) 0 ≡ eqb u (cond l (2 ^ n - 1) 0)
@@ -158,8 +157,8 @@ module _ (n : ℕ) (rep : Bool) (x y : ℕ) (hn : 0 < n) (hx : x < 2 ^ n) (hy : 
   manual-rule = ap not (ap (extends n) signed-bits ∙ fits-tells n (negates n rep x y) size hn size-lt ∙ ap (fitsSigned n) (sym returned-is))
 
   -- and so is the test that IMULCOF makes
-  pub imulcof-rule : n ≤ 16 → not (eqb (signSum n (halvesOf n (productOf n true rep x y)) .result) 0) ≡ carries n true rep x y
-  imulcof-rule h16 = ap not (sum-tells n (halvesOf n (productOf n true rep x y)) hn h16 upper) ∙ manual-rule
+  pub imulcof-rule : n ≤ 16 → not (eqb (halvesSum n (productOf n true rep x y) .result) 0) ≡ carries n true rep x y
+  imulcof-rule h16 = ap not (sum-tells n (productOf n true rep x y / 2 ^ n) (productOf n true rep x y % 2 ^ n) hn h16 upper) ∙ manual-rule
     where
       upper : productOf n true rep x y / 2 ^ n < 2 ^ n
       upper = shr-lt n n (wrapped-lt (n + n) (returned n true rep x y))

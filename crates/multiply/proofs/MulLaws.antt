@@ -24,7 +24,7 @@ use Rattle.alu.specs.Sum.{adc, sbb, neg}
 use Rattle.negate.specs.Negate.{Negate, pair, second, corNegate}
 use Rattle.multiply.specs.Corx.{Halves, corx}
 use Rattle.multiply.specs.Routines.{Multiplied, preimul, multiplied, mulcof, signSum, imulcof}
-use Rattle.multiply.specs.Multiply.{productOf, halvesOf, carries, mulFlags, negates, mulSteps, multiply}
+use Rattle.multiply.specs.Multiply.{productOf, halvesSum, carries, mulFlags, negates, mulSteps, multiply}
 use Rattle.multiply.proofs.CarryLaws.{signed-bits, imulcof-rule}
 
 cond-le : (s : Bool) (a b k : ℕ) → a ≤ k → b ≤ k → cond s a b ≤ k
@@ -137,7 +137,7 @@ module _ (n : ℕ) (h : Halves) (f : Flags) {g : Flags} {tail : ℕ} where
       → g ≡ szp 16 (sum .result) named → tail ≡ cond (not (eqb (sum .result) 0)) 9 10 → answer n h g tail ≡ imulcof n h f
   unfolding imulcof
   imulcof-is {sum = sum} hn hc eu es en eg et =
-      let whole : sum ≡ signSum n h = es ∙ ap₂ (λ (u : ℕ) (b : Bool). adc 16 u 0 b) eu (mask-top n (h .tmpc) hn hc) in
+      let whole : sum ≡ signSum n (h .tmpa) (h .tmpc) = es ∙ ap₂ (λ (u : ℕ) (b : Bool). adc 16 u 0 b) eu (mask-top n (h .tmpc) hn hc) in
       ap₂ (answer n h) (eg ∙ ap (szp 16 (sum .result)) en ∙ ap (flagged f) whole) (et ∙ ap (λ (s : ResultCoa). cond (not (eqb (s .result) 0)) 9 10) whole)
 
 -- ---- the whole multiplies
@@ -223,7 +223,7 @@ module _ (n : ℕ) (rep : Bool) (x y : ℕ) (flags : Flags) (hn : 0 < n) (hx : x
       product = div-add-mod' bits (2 ^ n) ∙ same
 
       sum : ℕ → ResultCoa
-      sum k = signSum n (halvesOf n k)
+      sum k = halvesSum n k
 
       told : not (eqb (sum bits .result) 0) ≡ carries n true rep x y
       told = ap (λ (k : ℕ). not (eqb (sum k .result) 0)) same ∙ imulcof-rule n rep x y hn hx hy h16

@@ -9,31 +9,32 @@ use Rattle.flags.specs.Numbers.{top, topSet, valued, magnitude, wrapped, fitsSi
 use Rattle.flags.specs.Word.{setCO, setCOA}
 use Rattle.flags.specs.Szp.{szp}
 use Rattle.flags.specs.declared.word.Flags.{Flags}
-use Rattle.multiply.specs.Corx.{Halves}
+use Rattle.alu.specs.Result.{ResultCoa}
 use Rattle.multiply.specs.Routines.{Multiplied, signSum}
 
 -- the product of the numbers that the factors stand for, negated under REP
 abbrev pub returned : ℕ → Bool → Bool → ℕ → ℕ → ℤ
 returned n s rep x y = cond rep (negℤ (valued s n x *ℤ valued s n y)) (valued s n x *ℤ valued s n y)
 
--- its 2n bits, and their halves
+-- its 2n bits
 abbrev pub productOf : ℕ → Bool → Bool → ℕ → ℕ → ℕ
 productOf n s rep x y = wrapped (n + n) (returned n s rep x y)
 
-abbrev pub halvesOf : ℕ → ℕ → Halves
-halvesOf n p = record { tmpa = p / 2 ^ n; tmpc = p % 2 ^ n; steps = 0 }
+-- the upper half of so many bits as a 16-bit signed word plus the lower half's top bit
+abbrev pub halvesSum : ℕ → ℕ → ResultCoa
+halvesSum n bits = signSum n (bits / 2 ^ n) (bits % 2 ^ n)
 
 -- C and O: unsigned, the upper half is not 0; signed, the product does not fit n signed bits
 abbrev pub carries : ℕ → Bool → Bool → ℕ → ℕ → Bool
 carries n false rep x y = not (eqb (productOf n false rep x y / 2 ^ n) 0)
 carries n true rep x y = not (fitsSigned n (returned n true rep x y))
 
--- unsigned, the other four stay; signed, A, S, Z and P come from the upper half as a 16-bit signed word plus the lower half's top bit
+-- unsigned, the other four stay; signed, A, S, Z and P come from that sum of the product's halves
 abbrev pub mulFlags : ℕ → Bool → Bool → ℕ → ℕ → Flags → Flags
 mulFlags n false rep x y f = setCO (carries n false rep x y) (carries n false rep x y) f
 mulFlags n true rep x y f =
-    szp 16 (signSum n (halvesOf n (productOf n true rep x y)) .result)
-    (setCOA (carries n true rep x y) (carries n true rep x y) (signSum n (halvesOf n (productOf n true rep x y)) .auxCarry) f)
+    szp 16 (halvesSum n (productOf n true rep x y) .result)
+    (setCOA (carries n true rep x y) (carries n true rep x y) (halvesSum n (productOf n true rep x y) .auxCarry) f)
 
 -- NEGATE runs on a signed product if REP and the two signs are odd in number
 abbrev pub negates : ℕ → Bool → ℕ → ℕ → Bool

@@ -49,14 +49,14 @@ mulcof n h f =
     }
 
 -- the upper half as a 16-bit signed word plus the lower half's top bit
-abbrev pub signSum : ℕ → Halves → ResultCoa
-signSum n h = adc 16 (wrapped 16 (signed n (h .tmpa))) 0 (topSet n (h .tmpc))
+abbrev pub signSum : ℕ → ℕ → ℕ → ResultCoa
+signSum n upper lower = adc 16 (wrapped 16 (signed n upper)) 0 (topSet n lower)
 
 -- A, S, Z and P of a signed product come from that sum, and C and O say that it is not 0; 9 steps, or 10 where it is
 unfoldable pub imulcof : ℕ → Halves → Flags → Multiplied
 imulcof n h f =
     record {
       product = h .tmpa * 2 ^ n + h .tmpc;
-      flags = szp 16 (signSum n h .result) (setCOA (not (eqb (signSum n h .result) 0)) (not (eqb (signSum n h .result) 0)) (signSum n h .auxCarry) f);
-      steps = h .steps + cond (not (eqb (signSum n h .result) 0)) 9 10;
+      flags = szp 16 (signSum n (h .tmpa) (h .tmpc) .result) (setCOA (not (eqb (signSum n (h .tmpa) (h .tmpc) .result) 0)) (not (eqb (signSum n (h .tmpa) (h .tmpc) .result) 0)) (signSum n (h .tmpa) (h .tmpc) .auxCarry) f);
+      steps = h .steps + cond (not (eqb (signSum n (h .tmpa) (h .tmpc) .result) 0)) 9 10;
     }
