@@ -59,7 +59,7 @@ enum hatchyarn_mode {
     HATCHYARN_MODE_BYTE = 0x00,
     HATCHYARN_MODE_WORD = 0x01,   /* sixteen bits; not for AAA to DAS */
     HATCHYARN_MODE_SIGNED = 0x02, /* multiply and divide alone */
-    HATCHYARN_MODE_REP = 0x04     /* multiply and divide alone */
+    HATCHYARN_MODE_REP = 0x04     /* a REP prefix: a product or signed quotient is negated; as above */
 };
 
 /* The bits of a flags word. */
@@ -77,8 +77,8 @@ enum hatchyarn_flag {
 struct hatchyarn_answer {
     uint16_t flags;
     uint16_t steps; /* of the microcode */
-    uint16_t r;     /* result, AX, quotient, 8-bit product or upper half of a 16-bit one */
-    uint16_t s;     /* remainder or lower half of a 16-bit product, else 0 */
+    uint16_t r;     /* result, quotient, AX or product; the upper half if that has 32 bits */
+    uint16_t s;     /* remainder, or the lower half of such a product; else 0 */
 };
 
 /* The bytes of an answer line, its line feed included. */
@@ -86,7 +86,9 @@ struct hatchyarn_answer {
 
 /*
  * Answers a request given as numbers. X is the left operand, dividend or AX; Y is the right operand,
- * count, divisor or AAD's byte, and 0 where there is none. Signed numbers are two's complement.
+ * count, divisor or AAD's byte, and 0 where there is none. They are as wide as the work, but that a
+ * dividend has twice the width, AX has 16 bits, and counts and AAD's byte have 8. Signed numbers are
+ * two's complement.
  *
  * Returns HATCHYARN_DONE or one of HATCHYARN_BAD_OP to HATCHYARN_DIVIDE_REFUSED; *answer is written
  * whichever it is.

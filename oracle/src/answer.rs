@@ -18,9 +18,9 @@ pub struct Answer {
     pub refused: bool,
     pub flags: u16,
     pub steps: u16,
-    /// Result, AX, quotient, 8-bit product or upper half of a 16-bit product.
+    /// The result, quotient, AX or product; of a 16-bit product the upper half.
     pub r: u16,
-    /// Remainder or lower half of a 16-bit product, else 0.
+    /// The remainder, or that product's lower half; else 0.
     pub s: u16,
 }
 

@@ -7,7 +7,7 @@
 /// Counts one step for each entry listed.
 ///
 /// The three files use the macro and do not give it. It rests on the project's
-/// scope, multiply chart: a step is one entry listed in `cycles_mc!`.
+/// scope: every entry that the macro is given is a step.
 macro_rules! cycles_mc {
     ($cpu:expr, $($entry:expr),+ $(,)?) => {{
         $( $cpu.cycle_i($entry); )+
@@ -27,8 +27,7 @@ pub const MC_RTN: u16 = 0x1FF;
 /// True at each byte that holds an even number of ones.
 ///
 /// The three files read the table and do not give it. It rests on the project's
-/// scope, the flags word: P is set when the low eight bits hold an even number
-/// of ones.
+/// scope's rule for P.
 pub const PARITY_TABLE: [bool; 256] = parity_table();
 
 const fn parity_table() -> [bool; 256] {
@@ -146,8 +145,8 @@ impl Intel808x {
     }
 
     /// Reads one flag. The three files do not give it or its three fellows
-    /// below; they rest on the project's scope: flags that an operation does
-    /// not name stay as handed in.
+    /// below; they rest on the project's scope: to set one flag leaves the
+    /// others.
     #[inline]
     pub fn get_flag(&self, flag: Flag) -> bool {
         self.flags & flag as u16 != 0

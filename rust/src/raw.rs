@@ -2,7 +2,7 @@
 //!
 //! They are safe to call with anything: nothing is required of a caller, and every request gets an
 //! answer. Use them for requests that come from elsewhere as numbers or as text; a program that
-//! writes its own requests is better served by [`Request`](crate::Request).
+//! writes its own requests is better served by [`Operation`](crate::Operation).
 
 /// What [`ask`] answers.
 #[derive(Clone, Copy, Debug, PartialEq, Eq, Hash)]

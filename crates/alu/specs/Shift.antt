@@ -6,7 +6,7 @@ use Rattle.flags.specs.Numbers.{isSet, topSet}
 use Rattle.alu.specs.Result.{ResultC, ResultCo, ResultCoa}
 use Rattle.alu.specs.Step.{Shift, Shl, Shr, Sar, Rol, Ror, Rcl, Rcr, Step, before, steps}
 
--- which one it is, of those that move the same way: by whether it rotates, whether through C, and whether it is signed
+-- SHL, or where it rotates ROL, or RCL where through C
 abbrev pub leftBy : Bool → Bool → Shift
 leftBy false through = Shl
 leftBy true false = Rol
@@ -31,7 +31,7 @@ ofLast (suc k) flag = flag
 abbrev pub leftO : ℕ → ℕ → Step → ResultCo
 leftO n count s = record { result = s .value; carry = s .carry; overflow = ofLast count (xor (s .carry) (topSet n (s .value))) }
 
--- O of ROR and RCR: the two top bits of the new result, xored
+-- O rightward: the new result's top bit xor the bit below it
 abbrev pub rightO : ℕ → ℕ → Step → ResultCo
 rightO n count s =
     record { result = s .value; carry = s .carry; overflow = ofLast count (xor (topSet n (s .value)) (isSet (n - 2) (s .value))) }

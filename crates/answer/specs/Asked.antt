@@ -22,7 +22,7 @@ answered TooLarge = zeros 5
 unfoldable pub asked : ℕ → ℕ → ℕ → ℕ → ℕ → Answer
 asked op mode flags x y = answered (judged op mode flags x y)
 
--- in parts: the status, and flags, steps, R and S
+-- in parts: the status
 abbrev pub statusOf : ℕ → ℕ → ℕ → ℕ → ℕ → ℕ
 statusOf op mode flags x y = asked op mode flags x y .status
 

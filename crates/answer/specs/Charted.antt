@@ -1,5 +1,4 @@
--- The answer to an admitted request, by the charts. R is the result, AX, quotient, 8-bit product or upper half of a 16-bit one; S is the
--- remainder or that lower half, else 0. Assumes nothing.
+-- What an admitted request is answered, by the charts, and where its results stand. Assumes nothing.
 use Prim.Native.Nat.{ℕ, _/_, _%_}
 use Rattle.flags.specs.Word.{wordOf, setC, setCO, setCOA}
 use Rattle.flags.specs.declared.word.Flags.{Flags}

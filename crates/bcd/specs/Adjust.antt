@@ -3,7 +3,7 @@ use mathlib.Core.Bool.{Bool, _&&_, _||_}
 use Prim.Native.Nat.{ℕ, _/_, _%_}
 use lib.Dec.{leb, ltb}
 
--- the halves of AX
+-- the upper half of AX
 abbrev pub ahOf : ℕ → ℕ
 ahOf ax = ax / 256
 
@@ -15,6 +15,6 @@ alOf ax = ax % 256
 abbrev pub between : ℕ → ℕ → ℕ → Bool
 between low high x = leb low x && leb x high
 
--- adjust if AL's low digit is over 9 or A is set
+-- the low digit's test: it is above 9, or A is set
 abbrev pub adjusts : ℕ → Bool → Bool
 adjusts al a = ltb 9 (al % 16) || a

@@ -9,8 +9,8 @@ use Rattle.flags.specs.declared.word.Flags.{Flags}
 use Rattle.bcd.specs.Adjust.{ahOf, alOf, between, adjusts}
 use Rattle.bcd.specs.declared.adjust.Adjusted.{Adjusted}
 
--- what AAA and AAS leave of AH and AL, adjusted or not: AL keeps its low digit, Z and P read it before that cut; A = C = 1 and 6 steps if
--- it was adjusted, else A = C = 0 and 7
+-- what AAA and AAS leave. AL is cut to its low digit, but Z and P are of AL before it is; an adjust sets A and C and takes 6 steps, none
+-- clears both and takes 7
 unfoldable pub ascii : ℕ → ℕ → Bool → Bool → Bool → Adjusted
 ascii ah al adjusted o s =
     record {
@@ -19,11 +19,11 @@ ascii ah al adjusted o s =
       steps = cond adjusted 6 7;
     }
 
--- O if old AL is 7A to 7F, S if 7A to F9
+-- AAA's O, by AL as it was
 abbrev pub aaaO : ℕ → Bool
 aaaO al = between 0x7A 0x7F al
 
--- S if old AL is 7A to F9
+-- AAA's S, by AL as it was
 abbrev pub aaaS : ℕ → Bool
 aaaS al = between 0x7A 0xF9 al
 
@@ -34,11 +34,11 @@ aaaOf ax f =
     (ascii ((ahOf ax + 1) % 256) ((alOf ax + 6) % 256) true (aaaO (alOf ax)) (aaaS (alOf ax)))
     (ascii (ahOf ax) (alOf ax) false (aaaO (alOf ax)) (aaaS (alOf ax)))
 
--- O if A was set and old AL is 80 to 85; S if A was clear and old AL at least 80, or A set and old AL at most 05 or at least 86
+-- AAS's O, by AL and A as they were
 abbrev pub aasO : ℕ → Bool → Bool
 aasO al a = a && between 0x80 0x85 al
 
--- S if A was clear and old AL at least 80, or A set and old AL at most 05 or at least 86
+-- AAS's S, by AL and A as they were
 abbrev pub aasS : ℕ → Bool → Bool
 aasS al a = cond a (leb al 0x05 || leb 0x86 al) (leb 0x80 al)
 
@@ -49,7 +49,7 @@ aasOf ax f =
     (ascii ((256 + ahOf ax - 1) % 256) ((256 + alOf ax - 6) % 256) true (aasO (alOf ax) (f .«aux_carry»)) (aasS (alOf ax) (f .«aux_carry»)))
     (ascii (ahOf ax) (alOf ax) false (aasO (alOf ax) (f .«aux_carry»)) (aasS (alOf ax) (f .«aux_carry»)))
 
--- AL + AH times the byte mod 256, AH 0, S Z P of AL; 56 + ones(byte) steps
+-- AH times the byte goes into AL, mod 256, and AH becomes 0; S, Z and P are the new AL's; 56 steps and one for each of the byte's ones
 unfoldable pub aadOf : ℕ → ℕ → Flags → Adjusted
 aadOf ax byte f =
     record {

@@ -8,7 +8,7 @@ use Rattle.flags.specs.declared.word.Flags.{Flags}
 use Rattle.bcd.specs.Adjust.{ahOf, alOf, between, adjusts}
 use Rattle.bcd.specs.declared.adjust.Adjusted.{Adjusted}
 
--- by 60 hexadecimal if old AL is over 99 (9F if A was set) or C was set
+-- the high digit's test: C is set, or AL is above 99, or above 9F with A
 abbrev pub highAdjusts : ℕ → Bool → Bool → Bool
 highAdjusts al a c = ltb (cond a 0x9F 0x99) al || c
 
@@ -16,7 +16,7 @@ highAdjusts al a c = ltb (cond a 0x9F 0x99) al || c
 abbrev pub distance : ℕ → Flags → ℕ
 distance al f = cond (adjusts al (f .«aux_carry»)) 0x06 0 + cond (highAdjusts al (f .«aux_carry») (f .carry)) 0x60 0
 
--- AH kept, S Z P of AL, 0 steps
+-- AH stays; S, Z and P are the new AL's; no step is counted
 unfoldable pub decimal : ℕ → ℕ → Flags → Adjusted
 decimal ah al f = record { ax = ah * 256 + al; flags = szp 8 al f; steps = 0 }
 
@@ -24,7 +24,7 @@ decimal ah al f = record { ax = ah * 256 + al; flags = szp 8 al f; steps = 0 }
 abbrev pub named : ℕ → Bool → Flags → Flags
 named al o f = setCOA (highAdjusts al (f .«aux_carry») (f .carry)) o (adjusts al (f .«aux_carry»)) f
 
--- O: old AL 1A to 7F with C, 7A to 7F without
+-- DAA's O, by AL and C as they were
 abbrev pub daaO : ℕ → Bool → Bool
 daaO al c = cond c (between 0x1A 0x7F al) (between 0x7A 0x7F al)
 
@@ -32,7 +32,7 @@ daaO al c = cond c (between 0x1A 0x7F al) (between 0x7A 0x7F al)
 unfoldable pub daaOf : ℕ → Flags → Adjusted
 daaOf ax f = decimal (ahOf ax) ((alOf ax + distance (alOf ax) f) % 256) (named (alOf ax) (daaO (alOf ax) (f .carry)) f)
 
--- O for (A, C): (0, 0) 9A to DF; (1, 0) 80 to 85 and A0 to E5; (0, 1) 80 to DF; (1, 1) 80 to E5
+-- DAS's O, by AL, A and C as they were
 abbrev pub dasO : ℕ → Bool → Bool → Bool
 dasO al a c =
     cond c (cond a (between 0x80 0xE5 al) (between 0x80 0xDF al)) (cond a (between 0x80 0x85 al || between 0xA0 0xE5 al) (between 0x9A 0xDF al))

@@ -9,7 +9,7 @@ use flags::width::Byte;
 use flags::word::Flags;
 use multiply::corx;
 
-// AL keeps its low digit. Z and P read it before that cut, which is what the chip does.
+// AL is cut to its low digit; the chip takes Z and P from AL before it is.
 fn cut(
     ah: u8,
     new_al: u8,

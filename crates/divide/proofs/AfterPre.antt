@@ -9,7 +9,7 @@ use Rattle.divide.specs.Cord as Cord
 use Rattle.divide.specs.Cord.{CordAnswer, cord}
 use Rattle.divide.specs.Idiv.{PostAnswer, preIdiv, postIdiv}
 use Rattle.divide.specs.Flags.{compareFlags}
-use Rattle.divide.specs.Divide.{refused, big, small, preSteps, divide, finished}
+use Rattle.divide.specs.Divide.{refused, dividendOf, divisorOf, preSteps, divide, finished}
 use Rattle.divide.specs.declared.div.Refusal.the-variants.{FirstCompare}
 use Rattle.divide.proofs.DivLaws.{few-steps, pre-divisor, pre-flag, pre-few, pre-most, cord-of-pre, signed-refused, signed-finished}
 
@@ -27,7 +27,7 @@ pub record AfterPre (n : ℕ) : Type 0 where
 module _ (n : ℕ) (s : AfterPre n) where
   -- what CORD has to answer
   abbrev pub onward : CordAnswer
-  onward = cord n (small n true (s .divisor)) (big n true (s .dividend)) (6 + preSteps n (s .dividend) (s .divisor))
+  onward = cord n (divisorOf n true (s .divisor)) (dividendOf n true (s .dividend)) (6 + preSteps n (s .dividend) (s .divisor))
 
   pub few-before : s .pre .steps ≤ 17
   few-before = pre-few n (s .dividend) (s .divisor) (s .rep) (s .some) (s .wide) (s .fits) (s .handed)

@@ -8,20 +8,11 @@ use mathlib.Core.Bool.{Bool, true, cond}
 use mathlib.Core.Logic.{_↔_}
 use Prim.Native.Nat.{ℕ, _+_, _*_, _%_, _^_, _<_}
 use native.Mathlib.Omega.{arith}
-use lib.Count.{ones}
-use lib.IntN.{natAbs}
 use Rattle.flags.specs.Numbers.{topSet}
 use Rattle.flags.specs.declared.word.Flags.{Flags}
-use Rattle.divide.specs.Divide.{accepts, quotientOf, preSteps, divide, stepsOf}
+use Rattle.divide.specs.Divide.{accepts, preSteps, divide, stepsOf}
+use Rattle.divide.specs.StepLog.{shelf, told}
 use Rattle.divide.proofs.Told.{steps-told}
-
--- the quotient's magnitude: the shelf
-abbrev pub shelf : ℕ → ℕ → ℕ → ℕ
-shelf n d b = natAbs (quotientOf n true d b)
-
--- the ones in it, plus 2 if it is odd
-abbrev pub told : ℕ → ℕ
-told q = ones q + 2 * (q % 2)
 
 -- two accepted signed divides of one width, REP and flags either way on each, with dividends of equal sign and divisors of equal sign
 module _ (n : ℕ) (hn : 0 < n) (d b d′ b′ : ℕ) (rep rep′ : Bool) (f f′ : Flags)

@@ -23,10 +23,10 @@ use Rattle.divide.specs.Cord.{CordAnswer, lastCompare, cordSteps, cord}
 use Rattle.divide.specs.Idiv as Idiv
 use Rattle.divide.specs.Idiv.{preIdiv, withSign, postIdiv}
 use Rattle.divide.specs.Flags.{compareFlags}
-use Rattle.divide.specs.Divide.{Divided, accepted, refused, accepts, quotientOf, remainderOf, big, small, preSteps, divide, finished}
+use Rattle.divide.specs.Divide.{Divided, accepted, refused, accepts, quotientOf, remainderOf, dividendOf, divisorOf, preSteps, divide, finished}
 use Rattle.divide.specs.declared.div.Refusal.the-variants.{FirstCompare, SignRange}
 
--- a quotient is below m exactly where the dividend's part above m is below the divisor
+-- a quotient is below m where the dividend's part above m is below the divisor; m and b exchanged, the other way round
 pub below : (d b m : ℕ) → 0 < m → d / m < b → d / b < m
 below d b m hm h = let hb : 0 < b = omega arith in div-lt-iff-lt-mul hb .1 (subst (λ (x : ℕ). d < x) (mul-comm b m) (div-lt-iff-lt-mul hm .0 h))
 
@@ -99,19 +99,19 @@ module _ (n d b : ℕ) (rep : Bool) (hn : 0 < n) (hd : d < 2 ^ (n + n)) (hb : b 
   abbrev pub halves : Pair
   halves = record { tmpa = d / 2 ^ n; tmpc = d % 2 ^ n; negFlag = rep; steps = 4 }
 
-  dividend-is : withSign (n + n) (topSet n (d / 2 ^ n)) (d / 2 ^ n * 2 ^ n + d % 2 ^ n) ≡ big n true d
+  dividend-is : withSign (n + n) (topSet n (d / 2 ^ n)) (d / 2 ^ n * 2 ^ n + d % 2 ^ n) ≡ dividendOf n true d
   dividend-is =
       ap₂ (withSign (n + n)) (top-upper n d hn) (div-add-mod' d (2 ^ n)) ∙ plain-by (n + n) d (omega arith) hd ∙ sym (magnitude-plain (n + n) d hd)
 
   module _ {pre : Negate} (e : pre ≡ preIdiv n halves b) where
-    pub pre-dividend : pre .tmpa * 2 ^ n + pre .tmpc ≡ big n true d
+    pub pre-dividend : pre .tmpa * 2 ^ n + pre .tmpc ≡ dividendOf n true d
     unfolding preIdiv
     pre-dividend =
         ap (λ (r : Negate). r .tmpa * 2 ^ n + r .tmpc) e
         ∙ div-add-mod' (withSign (n + n) (topSet n (d / 2 ^ n)) (d / 2 ^ n * 2 ^ n + d % 2 ^ n)) (2 ^ n)
         ∙ dividend-is
 
-    pub pre-divisor : pre .tmpb ≡ small n true b
+    pub pre-divisor : pre .tmpb ≡ divisorOf n true b
     unfolding preIdiv
     pre-divisor = ap (λ (r : Negate). r .tmpb) e ∙ plain-by n b hn hb ∙ sym (magnitude-plain n b hb)
 
@@ -131,7 +131,7 @@ module _ (n d b : ℕ) (rep : Bool) (hn : 0 < n) (hd : d < 2 ^ (n + n)) (hb : b 
 
     -- CORD on what PREIDIV hands it
     pub cord-of-pre : {a : CordAnswer} → a ≡ cord n (pre .tmpb) (pre .tmpa * 2 ^ n + pre .tmpc) (pre .steps + 2)
-        → a ≡ cord n (small n true b) (big n true d) (6 + preSteps n d b)
+        → a ≡ cord n (divisorOf n true b) (dividendOf n true d) (6 + preSteps n d b)
     cord-of-pre f =
         let steps : pre .steps + 2 ≡ 6 + preSteps n d b = omega (arith, pre-steps) in
         f ∙ λ i. cord n (pre-divisor i) (pre-dividend i) (steps i)
@@ -140,62 +140,62 @@ module _ (n d b : ℕ) (rep : Bool) (hn : 0 < n) (hd : d < 2 ^ (n + n)) (hb : b 
     pre-few = omega (arith, pre-steps, pre-most n d b)
 
   -- the numbers divided, by sign and magnitude
-  pub quotient-by : 0 < small n true b → quotientOf n true d b ≡ signOf (xor (topSet (n + n) d) (topSet n b)) (big n true d / small n true b)
+  pub quotient-by : 0 < divisorOf n true b → quotientOf n true d b ≡ signOf (xor (topSet (n + n) d) (topSet n b)) (dividendOf n true d / divisorOf n true b)
   quotient-by h =
       ap₂ quotZ (signed-by (n + n) d hd) (signed-by n b hb)
       ∙ quot-sign (topSet (n + n) d) (topSet n b) (plain (n + n) d) (plain n b) (subst (λ (x : ℕ). 0 < x) (magnitude-plain n b hb) h)
       ∙ ap₂ (λ (x y : ℕ). signOf (xor (topSet (n + n) d) (topSet n b)) (x / y)) (sym (magnitude-plain (n + n) d hd)) (sym (magnitude-plain n b hb))
 
-  remainder-by : remainderOf n true d b ≡ signOf (topSet (n + n) d) (big n true d % small n true b)
+  remainder-by : remainderOf n true d b ≡ signOf (topSet (n + n) d) (dividendOf n true d % divisorOf n true b)
   remainder-by =
       ap₂ remZ (signed-by (n + n) d hd) (signed-by n b hb)
       ∙ rem-sign (topSet (n + n) d) (topSet n b) (plain (n + n) d) (plain n b)
       ∙ ap₂ (λ (x y : ℕ). signOf (topSet (n + n) d) (x % y)) (sym (magnitude-plain (n + n) d hd)) (sym (magnitude-plain n b hb))
 
   -- a divisor has the magnitude 0 exactly if it is 0
-  nonzero : 0 < small n true b → eqb b 0 ≡ false
+  nonzero : 0 < divisorOf n true b → eqb b 0 ≡ false
   nonzero h = ne-eqb b 0 (λ z. omega (arith, magnitude-plain n b hb, zero-plain z))
     where
       zero-plain : b ≡ 0 → plain n b ≡ 0
       zero-plain z = rw (lt-leb (top n) b (omega (arith, pow-pos (n - 1)))) z
 
-  pub zero-or-not : (0 < small n true b) ⊎ (eqb b 0 ≡ true)
-  zero-or-not = by (small n true b) refl
+  pub zero-or-not : (0 < divisorOf n true b) ⊎ (eqb b 0 ≡ true)
+  zero-or-not = by (divisorOf n true b) refl
     where
       zero-of : (s : Bool) → cond s (2 ^ n - b) b ≡ 0 → b ≡ 0
       zero-of true z = absurd (omega arith)
       zero-of false z = z
 
-      by : (k : ℕ) → small n true b ≡ k → (0 < small n true b) ⊎ (eqb b 0 ≡ true)
+      by : (k : ℕ) → divisorOf n true b ≡ k → (0 < divisorOf n true b) ⊎ (eqb b 0 ≡ true)
       by zero e = inr (eq-eqb b 0 (zero-of (topSet n b) (sym (magnitude-plain n b hb) ∙ e)))
       by (suc k) e = inl (omega arith)
 
   -- the manual's rule for a signed divide, where the divisor is not 0
-  pub rule : 0 < small n true b → accepts n true d b ≡ ltb (big n true d / small n true b) (top n)
-  rule h = rw (nonzero h) (ap (λ (z : ℤ). ltb (natAbs z) (top n)) (quotient-by h) ∙ ap (λ (k : ℕ). ltb k (top n)) (abs-sign (xor (topSet (n + n) d) (topSet n b)) (big n true d / small n true b)))
+  pub rule : 0 < divisorOf n true b → accepts n true d b ≡ ltb (dividendOf n true d / divisorOf n true b) (top n)
+  rule h = rw (nonzero h) (ap (λ (z : ℤ). ltb (natAbs z) (top n)) (quotient-by h) ∙ ap (λ (k : ℕ). ltb k (top n)) (abs-sign (xor (topSet (n + n) d) (topSet n b)) (dividendOf n true d / divisorOf n true b)))
 
   -- refused by the first compare, whatever the reason
-  too-wide : small n true b ≤ big n true d / 2 ^ n → accepts n true d b ≡ false
-  too-wide h = ⊎-elim (λ p. rule p ∙ by p (ltb (big n true d / small n true b) (top n)) refl) (λ z. rw z) zero-or-not
+  too-wide : divisorOf n true b ≤ dividendOf n true d / 2 ^ n → accepts n true d b ≡ false
+  too-wide h = ⊎-elim (λ p. rule p ∙ by p (ltb (dividendOf n true d / divisorOf n true b) (top n)) refl) (λ z. rw z) zero-or-not
     where
-      by : 0 < small n true b → (x : Bool) → ltb (big n true d / small n true b) (top n) ≡ x → x ≡ false
+      by : 0 < divisorOf n true b → (x : Bool) → ltb (dividendOf n true d / divisorOf n true b) (top n) ≡ x → x ≡ false
       by p true e =
-          let q : big n true d / small n true b < 2 ^ n = omega (arith, ltb-true (big n true d / small n true b) (top n) e, top-twice n hn) in
-          absurd (omega (arith, below (big n true d) (2 ^ n) (small n true b) p q))
+          let q : dividendOf n true d / divisorOf n true b < 2 ^ n = omega (arith, ltb-true (dividendOf n true d / divisorOf n true b) (top n) e, top-twice n hn) in
+          absurd (omega (arith, below (dividendOf n true d) (2 ^ n) (divisorOf n true b) p q))
       by p false e = refl
 
   module _ (f : Flags) where
-    pub signed-refused : {t : ℕ} → Cord.refused t ≡ cord n (small n true b) (big n true d) (6 + preSteps n d b) → refused FirstCompare f t ≡ divide n true rep d b f
+    pub signed-refused : {t : ℕ} → Cord.refused t ≡ cord n (divisorOf n true b) (dividendOf n true d) (6 + preSteps n d b) → refused FirstCompare f t ≡ divide n true rep d b f
     unfolding divide
     signed-refused e =
-        let w = when-refused n (small n true b) (big n true d) (6 + preSteps n d b) e in
-        rw (too-wide (w .0), le-leb (small n true b) (big n true d / 2 ^ n) (w .0)) (ap (refused FirstCompare f) (w .1 ∙ omega arith))
+        let w = when-refused n (divisorOf n true b) (dividendOf n true d) (6 + preSteps n d b) e in
+        rw (too-wide (w .0), le-leb (divisorOf n true b) (dividendOf n true d / 2 ^ n) (w .0)) (ap (refused FirstCompare f) (w .1 ∙ omega arith))
 
-    module _ {q r : ℕ} {c : Bool} {l t : ℕ} (e : Cord.accepted q r c l t ≡ cord n (small n true b) (big n true d) (6 + preSteps n d b)) where
-      w : (big n true d / 2 ^ n < small n true b) × (q ≡ big n true d / small n true b) × (r ≡ big n true d % small n true b)
-          × (c ≡ ltb (big n true d / small n true b) (top n)) × (l ≡ lastCompare n (small n true b) n (big n true d))
-          × (t ≡ 6 + preSteps n d b + cordSteps n (small n true b) (big n true d))
-      w = when-accepted n (small n true b) (big n true d) (6 + preSteps n d b) e
+    module _ {q r : ℕ} {c : Bool} {l t : ℕ} (e : Cord.accepted q r c l t ≡ cord n (divisorOf n true b) (dividendOf n true d) (6 + preSteps n d b)) where
+      w : (dividendOf n true d / 2 ^ n < divisorOf n true b) × (q ≡ dividendOf n true d / divisorOf n true b) × (r ≡ dividendOf n true d % divisorOf n true b)
+          × (c ≡ ltb (dividendOf n true d / divisorOf n true b) (top n)) × (l ≡ lastCompare n (divisorOf n true b) n (dividendOf n true d))
+          × (t ≡ 6 + preSteps n d b + cordSteps n (divisorOf n true b) (dividendOf n true d))
+      w = when-accepted n (divisorOf n true b) (dividendOf n true d) (6 + preSteps n d b) e
 
       ruled : accepts n true d b ≡ c
       ruled = rule (omega (arith, w .0)) ∙ sym (w .3)
@@ -211,52 +211,52 @@ module _ (n d b : ℕ) (rep : Bool) (hn : 0 < n) (hd : d < 2 ^ (n + n)) (hb : b 
           by true x p = let z : _≡_ {A = ℕ} 0 1 = cc in absurd (omega arith)
           by false x p =
               let steps : u ≡ t + 3 + 2 = cc in
-              rw (x, lt-leb (small n true b) (big n true d / 2 ^ n) (w .0)) (ap (refused SignRange f) (steps ∙ omega (arith, w .5)))
+              rw (x, lt-leb (divisorOf n true b) (dividendOf n true d / 2 ^ n) (w .0)) (ap (refused SignRange f) (steps ∙ omega (arith, w .5)))
 
       -- accepted
       signed-accepted : {negate : Bool} → negate ≡ xor rep (xor (topSet (n + n) d) (topSet n b)) → {q′ r′ u : ℕ}
           → Idiv.accepted q′ r′ u ≡ postIdiv n r (d / 2 ^ n) q c negate (t + 3)
-          → {k : ℕ} {g h : Flags} → k ≡ small n true b → g ≡ compareFlags n l k c f → h ≡ setCO false false g
+          → {k : ℕ} {g h : Flags} → k ≡ divisorOf n true b → g ≡ compareFlags n l k c f → h ≡ setCO false false g
           → accepted q′ r′ h u ≡ divide n true rep d b f
       unfolding divide postIdiv
       signed-accepted {negate} en {q′} {r′} {u} = by c ruled (w .3)
         where
-          quotient : big n true d / small n true b < top n
+          quotient : dividendOf n true d / divisorOf n true b < top n
               → withSign n negate q ≡ wrapped n (cond rep (negℤ (quotientOf n true d b)) (quotientOf n true d b))
           quotient s =
               ap₂ (withSign n) en (w .1)
-              ∙ sym (wrapped-sign n (xor rep (xor (topSet (n + n) d) (topSet n b))) (big n true d / small n true b) (omega (arith, top-twice n hn)))
-              ∙ ap (wrapped n) (sym (neg-once-more rep (xor (topSet (n + n) d) (topSet n b)) (big n true d / small n true b)))
+              ∙ sym (wrapped-sign n (xor rep (xor (topSet (n + n) d) (topSet n b))) (dividendOf n true d / divisorOf n true b) (omega (arith, top-twice n hn)))
+              ∙ ap (wrapped n) (sym (neg-once-more rep (xor (topSet (n + n) d) (topSet n b)) (dividendOf n true d / divisorOf n true b)))
               ∙ ap (λ (z : ℤ). wrapped n (cond rep (negℤ z) z)) (sym (quotient-by (omega (arith, w .0))))
 
-          small-rest : big n true d % small n true b < 2 ^ n
+          small-rest : dividendOf n true d % divisorOf n true b < 2 ^ n
           small-rest =
-              omega (arith, mod-lt (big n true d) {m = small n true b} (omega (arith, w .0)), magnitude-plain n b hb, plain-lt n b hn hb)
+              omega (arith, mod-lt (dividendOf n true d) {m = divisorOf n true b} (omega (arith, w .0)), magnitude-plain n b hb, plain-lt n b hn hb)
 
           remainder : withSign n (topSet n (d / 2 ^ n)) r ≡ wrapped n (remainderOf n true d b)
           remainder =
               ap₂ (withSign n) (top-upper n d hn) (w .2)
-              ∙ sym (wrapped-sign n (topSet (n + n) d) (big n true d % small n true b) small-rest)
+              ∙ sym (wrapped-sign n (topSet (n + n) d) (dividendOf n true d % divisorOf n true b) small-rest)
               ∙ ap (wrapped n) (sym remainder-by)
 
-          by : (c : Bool) → accepts n true d b ≡ c → c ≡ ltb (big n true d / small n true b) (top n)
+          by : (c : Bool) → accepts n true d b ≡ c → c ≡ ltb (dividendOf n true d / divisorOf n true b) (top n)
               → Idiv.accepted q′ r′ u ≡ cond c (Idiv.accepted (withSign n negate q) (withSign n (topSet n (d / 2 ^ n)) r) (t + 3 + 10)) (Idiv.refused (t + 3 + 2))
-              → {k : ℕ} {g h : Flags} → k ≡ small n true b → g ≡ compareFlags n l k c f → h ≡ setCO false false g
+              → {k : ℕ} {g h : Flags} → k ≡ divisorOf n true b → g ≡ compareFlags n l k c f → h ≡ setCO false false g
               → accepted q′ r′ h u ≡ divide n true rep d b f
           by false x y p ek eg eh = let z : _≡_ {A = ℕ} 0 1 = cc in absurd (omega arith)
           by true x y p {k} {g} {h} ek eg eh =
-              let s = ltb-true (big n true d / small n true b) (top n) (sym y) in
+              let s = ltb-true (dividendOf n true d / divisorOf n true b) (top n) (sym y) in
               let eq : q′ ≡ withSign n negate q = cc in
               let er : r′ ≡ withSign n (topSet n (d / 2 ^ n)) r = cc in
               let eu : u ≡ t + 3 + 10 = cc in
-              let flags : h ≡ setCO false false (compareFlags n (lastCompare n (small n true b) n (big n true d)) (small n true b) (ltb (big n true d / small n true b) (top n)) f) =
+              let flags : h ≡ setCO false false (compareFlags n (lastCompare n (divisorOf n true b) n (dividendOf n true d)) (divisorOf n true b) (ltb (dividendOf n true d / divisorOf n true b) (top n)) f) =
               eh ∙ ap (setCO false false) (eg ∙ λ i. compareFlags n (w .4 i) (ek i) (y i) f) in
-              let steps : u ≡ 19 + preSteps n d b + cordSteps n (small n true b) (big n true d) = eu ∙ omega (arith, w .5) in
+              let steps : u ≡ 19 + preSteps n d b + cordSteps n (divisorOf n true b) (dividendOf n true d) = eu ∙ omega (arith, w .5) in
               rw x (λ i. accepted ((eq ∙ quotient s) i) ((er ∙ remainder) i) (flags i) (steps i))
 
       -- either way
       pub signed-finished : {negate : Bool} → negate ≡ xor rep (xor (topSet (n + n) d) (topSet n b)) → (p : Idiv.PostAnswer)
-          → p ≡ postIdiv n r (d / 2 ^ n) q c negate (t + 3) → {k : ℕ} {g : Flags} → k ≡ small n true b → g ≡ compareFlags n l k c f
+          → p ≡ postIdiv n r (d / 2 ^ n) q c negate (t + 3) → {k : ℕ} {g : Flags} → k ≡ divisorOf n true b → g ≡ compareFlags n l k c f
           → finished p g f ≡ divide n true rep d b f
       signed-finished en (Idiv.accepted q′ r′ u) ep ek eg = signed-accepted en ep ek eg refl
       signed-finished {negate} en (Idiv.refused u) ep ek eg = range-refused negate ep

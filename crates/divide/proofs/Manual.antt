@@ -1,27 +1,22 @@
--- The manual's division on the integers: the dividend is quotient times divisor plus remainder, the remainder smaller than the divisor in
--- magnitude and of the dividend's sign. These three say what quotient and remainder are, and the definitions of divide are they.
--- Assumes nothing.
+-- The manual's division determines quotient and remainder, and those of the definitions are they. An unsigned divide is refused where the
+-- manual says so: the divisor is 0, or the quotient does not fit. Assumes nothing.
 use mathlib.Core.Path.{_≡_, refl, sym, ap, ap₂, subst, subst⁻¹, _∙_}
-use mathlib.Core.Bool.{Bool, true, false, not, xor}
+use mathlib.Core.Bool.{Bool, true, false, not, xor, _&&_}
 use mathlib.Core.Logic.{_⊎_, inl, inr}
-use Prim.Native.Nat.{ℕ, zero, suc, _+_, _-_, _*_, _/_, _%_, _≤_, _<_}
+use Prim.Native.Nat.{ℕ, zero, suc, _+_, _-_, _*_, _/_, _%_, _^_, _≤_, _<_}
 use native.Mathlib.Nat.{div-add-mod', mod-lt}
 use native.Mathlib.Omega.{arith}
 use lib.Arith.{digits-div, digits-mod}
+use lib.Dec.{eqb, ltb}
 use lib.IntN.{ℤ, pos, negsuc, negℤ, natAbs, _+ℤ_, _*ℤ_, negℤ-+ℤ}
+use lib.Pow.{pow-pos}
 use lib.Signed.{quotZ, remZ}
+use borrow.Author.Tests.{ltb-true, ltb-false, le-ltb, ne-eqb}
 use Rattle.flags.proofs.SignedLaws.{Diff, above, below, diff-add, diff-neg}
 use Rattle.flags.proofs.SignLaws.{signOf, abs-sign, mul-sign, quot-sign, rem-sign}
-
--- a number below 0
-abbrev pub negative : ℤ → Bool
-negative (pos k) = false
-negative (negsuc k) = true
-
-pub record Division (z w q r : ℤ) : Type 0 where
-  pub whole : q *ℤ w +ℤ r ≡ z
-  pub smaller : natAbs r < natAbs w
-  pub sign : (natAbs r ≡ 0) ⊎ (negative r ≡ negative z)
+use Rattle.divide.specs.Divide.{accepts}
+use Rattle.divide.specs.Manual.{negative, Division}
+use Rattle.divide.proofs.DivLaws.{below as quotient-below}
 
 -- every number is its sign and its magnitude
 sign-of : (z : ℤ) → z ≡ signOf (negative z) (natAbs z)
@@ -180,3 +175,15 @@ division-holds z w pos-w = record { whole = whole; smaller = smaller; sign = sig
 
     sign : (natAbs (remZ z w) ≡ 0) ⊎ (negative (remZ z w) ≡ negative z)
     sign = subst⁻¹ (λ (r : ℤ). (natAbs r ≡ 0) ⊎ (negative r ≡ negative z)) remainder (sign-kept (negative z) (natAbs z % natAbs w))
+
+-- ---- an unsigned divide, by the chart and by the manual
+
+pub unsigned-manual : (n d b : ℕ) → accepts n false d b ≡ not (eqb b 0) && ltb (d / b) (2 ^ n)
+unsigned-manual n d zero = le-ltb (d / 2 ^ n) 0 (omega arith)
+unsigned-manual n d (suc b) = rw (ne-eqb (suc b) 0 (λ e. omega arith)) (by (ltb (d / 2 ^ n) (suc b)) (ltb (d / suc b) (2 ^ n)) refl refl)
+  where
+    by : (x y : Bool) → ltb (d / 2 ^ n) (suc b) ≡ x → ltb (d / suc b) (2 ^ n) ≡ y → x ≡ y
+    by true true e f = refl
+    by false false e f = refl
+    by true false e f = absurd (omega (arith, quotient-below d (suc b) (2 ^ n) (pow-pos n) (ltb-true _ _ e), ltb-false (d / suc b) (2 ^ n) f))
+    by false true e f = absurd (omega (arith, quotient-below d (2 ^ n) (suc b) (omega arith) (ltb-true _ _ f), ltb-false (d / 2 ^ n) (suc b) e))

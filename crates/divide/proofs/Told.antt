@@ -14,7 +14,7 @@ use Rattle.flags.specs.Numbers.{top, topSet}
 use Rattle.flags.specs.declared.word.Flags.{Flags}
 use Rattle.flags.proofs.Powers.{top-twice}
 use Rattle.flags.proofs.SignLaws.{plain-lt, magnitude-plain, abs-sign}
-use Rattle.divide.specs.Divide.{accepts, quotientOf, big, small, refusalOf, preSteps, refusedSteps, divide, stepsOf}
+use Rattle.divide.specs.Divide.{accepts, quotientOf, dividendOf, divisorOf, refusalOf, preSteps, refusedSteps, divide, stepsOf}
 use Rattle.divide.specs.declared.div.Refusal.{Refusal}
 use Rattle.divide.specs.declared.div.Refusal.the-variants.{FirstCompare, SignRange}
 use Rattle.divide.specs.Cord.{cordSteps, noBorrows}
@@ -23,31 +23,31 @@ use Rattle.divide.proofs.CordLaws.{most-ones}
 use Rattle.divide.proofs.RoadLaws.{plain-ones}
 
 module _ (n d b : ℕ) (rep : Bool) (f : Flags) (hn : 0 < n) (hd : d < 2 ^ (n + n)) (hb : b < 2 ^ n) (agreed : accepts n true d b ≡ true) where
-  divisor-pos : 0 < small n true b
+  divisor-pos : 0 < divisorOf n true b
   divisor-pos = ⊎-elim (λ h. h) (λ z. absurd (false≢true (sym (ap (λ (x : Bool). not x && ltb (natAbs (quotientOf n true d b)) (top n)) z) ∙ agreed))) (zero-or-not n d b rep hn hd hb)
 
-  quotient-is : natAbs (quotientOf n true d b) ≡ big n true d / small n true b
-  quotient-is = ap natAbs (quotient-by n d b rep hn hd hb divisor-pos) ∙ abs-sign (xor (topSet (n + n) d) (topSet n b)) (big n true d / small n true b)
+  quotient-is : natAbs (quotientOf n true d b) ≡ dividendOf n true d / divisorOf n true b
+  quotient-is = ap natAbs (quotient-by n d b rep hn hd hb divisor-pos) ∙ abs-sign (xor (topSet (n + n) d) (topSet n b)) (dividendOf n true d / divisorOf n true b)
 
-  in-range : big n true d / small n true b < top n
-  in-range = ltb-true (big n true d / small n true b) (top n) (sym (rule n d b rep hn hd hb divisor-pos) ∙ agreed)
+  in-range : dividendOf n true d / divisorOf n true b < top n
+  in-range = ltb-true (dividendOf n true d / divisorOf n true b) (top n) (sym (rule n d b rep hn hd hb divisor-pos) ∙ agreed)
 
-  divisor-half : small n true b * 2 ≤ 2 ^ n
+  divisor-half : divisorOf n true b * 2 ≤ 2 ^ n
   divisor-half = omega (arith, magnitude-plain n b hb, plain-lt n b hn hb, top-twice n hn)
 
-  by-no-borrow : noBorrows n (small n true b) n (big n true d) ≡ ones (big n true d / small n true b)
+  by-no-borrow : noBorrows n (divisorOf n true b) n (dividendOf n true d) ≡ ones (dividendOf n true d / divisorOf n true b)
   by-no-borrow =
-      plain-ones n (small n true b) n (big n true d) divisor-pos divisor-half
-      (below (big n true d) (2 ^ n) (small n true b) divisor-pos (omega (arith, in-range, top-twice n hn)))
+      plain-ones n (divisorOf n true b) n (dividendOf n true d) divisor-pos divisor-half
+      (below (dividendOf n true d) (2 ^ n) (divisorOf n true b) divisor-pos (omega (arith, in-range, top-twice n hn)))
 
   pub steps-told : stepsOf (divide n true rep d b f) ≡ 25 + preSteps n d b + 8 * n + (ones (natAbs (quotientOf n true d b)) + 2 * (natAbs (quotientOf n true d b) % 2))
   unfolding divide
   steps-told = rw (agreed, quotient-is) (omega (arith, by-no-borrow))
 
-  few-ones : ones (big n true d / small n true b) + 1 ≤ n
-  few-ones = omega (arith, ones-le (n - 1) (big n true d / small n true b) in-range)
+  few-ones : ones (dividendOf n true d / divisorOf n true b) + 1 ≤ n
+  few-ones = omega (arith, ones-le (n - 1) (dividendOf n true d / divisorOf n true b) in-range)
 
--- ---- the most that a divide takes: 39 + 9n steps, 111 at n = 8 and 183 at n = 16
+-- ---- the most that a divide takes: 39 + 9n steps
 
 module _ (n d b : ℕ) (rep : Bool) (f : Flags) (hn : 0 < n) (hd : d < 2 ^ (n + n)) (hb : b < 2 ^ n) where
   most-unsigned : (x : Bool) → accepts n false d b ≡ x → stepsOf (divide n false rep d b f) ≤ 39 + 9 * n
@@ -57,7 +57,7 @@ module _ (n d b : ℕ) (rep : Bool) (f : Flags) (hn : 0 < n) (hd : d < 2 ^ (n + 
 
   most-refused : (why : Refusal) → refusedSteps n true why d b ≤ 39 + 9 * n
   most-refused FirstCompare = omega (arith, pre-most n d b)
-  most-refused SignRange = omega (arith, pre-most n d b, most-ones n (small n true b) n (big n true d))
+  most-refused SignRange = omega (arith, pre-most n d b, most-ones n (divisorOf n true b) n (dividendOf n true d))
 
   most-signed : (x : Bool) → accepts n true d b ≡ x → stepsOf (divide n true rep d b f) ≤ 39 + 9 * n
   unfolding divide
@@ -68,3 +68,9 @@ module _ (n d b : ℕ) (rep : Bool) (f : Flags) (hn : 0 < n) (hd : d < 2 ^ (n + 
   pub most-steps : (s : Bool) → stepsOf (divide n s rep d b f) ≤ 39 + 9 * n
   most-steps true = most-signed (accepts n true d b) refl
   most-steps false = most-unsigned (accepts n false d b) refl
+
+pub most-steps-8 : (d b : ℕ) (rep : Bool) (f : Flags) → d < 2 ^ 16 → b < 2 ^ 8 → (s : Bool) → stepsOf (divide 8 s rep d b f) ≤ 111
+most-steps-8 d b rep f hd hb = most-steps 8 d b rep f (omega arith) hd hb
+
+pub most-steps-16 : (d b : ℕ) (rep : Bool) (f : Flags) → d < 2 ^ 32 → b < 2 ^ 16 → (s : Bool) → stepsOf (divide 16 s rep d b f) ≤ 183
+most-steps-16 d b rep f hd hb = most-steps 16 d b rep f (omega arith) hd hb

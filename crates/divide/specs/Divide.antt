@@ -14,59 +14,65 @@ use Rattle.divide.specs.Idiv as Idiv
 use Rattle.divide.specs.declared.div.Refusal.{Refusal}
 use Rattle.divide.specs.declared.div.Refusal.the-variants.{FirstCompare, SignRange}
 
+-- what a divide answers
 pub data Divided : Type 0 where
   accepted : (quotient remainder : ℕ) (flags : Flags) (steps : ℕ) → Divided
   refused : (refusal : Refusal) (flags : Flags) (steps : ℕ) → Divided
 
--- what the step log shows of an answer
+-- the steps of an answer, accepted or refused
 abbrev pub stepsOf : Divided → ℕ
 stepsOf (accepted q r f t) = t
 stepsOf (refused why f t) = t
 
--- the numbers that the dividend d and the divisor b stand for, divided: the quotient cut towards zero, the remainder with the dividend's sign
+-- the quotient of the numbers that dividend d and divisor b stand for, cut towards zero
 abbrev pub quotientOf : ℕ → Bool → ℕ → ℕ → ℤ
 quotientOf n s d b = quotZ (valued s (n + n) d) (valued s n b)
 
+-- what is left of the dividend then, with its sign
 abbrev pub remainderOf : ℕ → Bool → ℕ → ℕ → ℤ
 remainderOf n s d b = remZ (valued s (n + n) d) (valued s n b)
 
--- unsigned, accepted exactly if the dividend's upper half is below the divisor; signed, exactly if the divisor is not 0 and the quotient's
--- magnitude is at most 2 ^ (n - 1) - 1
+-- unsigned, the divisor has to be above the dividend's upper half; signed, it must not be 0, and the quotient's magnitude has to be below
+-- 2 ^ (n - 1)
 abbrev pub accepts : ℕ → Bool → ℕ → ℕ → Bool
 accepts n false d b = ltb (d / 2 ^ n) b
 accepts n true d b = not (eqb b 0) && ltb (natAbs (quotientOf n true d b)) (top n)
 
--- CORD works on the magnitudes
-abbrev pub big : ℕ → Bool → ℕ → ℕ
-big n s d = magnitude s (n + n) d
+-- the dividend that CORD works on: a magnitude
+abbrev pub dividendOf : ℕ → Bool → ℕ → ℕ
+dividendOf n s d = magnitude s (n + n) d
 
-abbrev pub small : ℕ → Bool → ℕ → ℕ
-small n s b = magnitude s n b
+-- and the divisor
+abbrev pub divisorOf : ℕ → Bool → ℕ → ℕ
+divisorOf n s b = magnitude s n b
 
 -- a refusal comes from the first compare of upper half and divisor, or else for sign range
 abbrev pub refusalOf : ℕ → Bool → ℕ → ℕ → Refusal
-refusalOf n s d b = cond (leb (small n s b) (big n s d / 2 ^ n)) FirstCompare SignRange
+refusalOf n s d b = cond (leb (divisorOf n s b) (dividendOf n s d / 2 ^ n)) FirstCompare SignRange
 
--- PREIDIV: 3 steps for a dividend at least 0, else 7, plus 5 for a negative divisor, else 6
+-- PREIDIV: 7 steps for a negative dividend or 3, and 5 for a negative divisor or 6
 abbrev pub preSteps : ℕ → ℕ → ℕ → ℕ
 preSteps n d b = cond (topSet (n + n) d) 7 3 + cond (topSet n b) 5 6
 
+-- the totals: 7 and CORD's; signed, 19 and PREIDIV's and CORD's
 abbrev pub acceptedSteps : ℕ → Bool → ℕ → ℕ → ℕ
 acceptedSteps n false d b = 7 + cordSteps n b d
-acceptedSteps n true d b = 19 + preSteps n d b + cordSteps n (small n true b) (big n true d)
+acceptedSteps n true d b = 19 + preSteps n d b + cordSteps n (divisorOf n true b) (dividendOf n true d)
 
+-- those of a refusal: 9; signed, 10 and PREIDIV's, or for sign range 11 and PREIDIV's and CORD's
 abbrev pub refusedSteps : ℕ → Bool → Refusal → ℕ → ℕ → ℕ
 refusedSteps n false refusal d b = 9
 refusedSteps n true FirstCompare d b = 10 + preSteps n d b
-refusedSteps n true SignRange d b = 11 + preSteps n d b + cordSteps n (small n true b) (big n true d)
+refusedSteps n true SignRange d b = 11 + preSteps n d b + cordSteps n (divisorOf n true b) (dividendOf n true d)
 
--- A, O, S, Z and P of the last compare made; C is set exactly if the quotient's magnitude is below 2 ^ (n - 1). Signed success clears C and O
+-- those of the last compare; C says that the quotient lies below 2 ^ (n - 1)
 abbrev pub cordFlags : ℕ → ℕ → ℕ → Flags → Flags
 cordFlags n b d f = compareFlags n (lastCompare n b n d) b (ltb (d / b) (top n)) f
 
+-- a signed divide clears C and O after that
 abbrev pub acceptedFlags : ℕ → Bool → ℕ → ℕ → Flags → Flags
 acceptedFlags n false d b f = cordFlags n b d f
-acceptedFlags n true d b f = setCO false false (cordFlags n (small n true b) (big n true d) f)
+acceptedFlags n true d b f = setCO false false (cordFlags n (divisorOf n true b) (dividendOf n true d) f)
 
 -- after a refusal, those handed in
 abbrev pub refusedFlags : Refusal → Flags → Flags

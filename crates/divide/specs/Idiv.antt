@@ -21,6 +21,7 @@ preIdiv n p b =
       steps = p .steps + cond (topSet n (p .tmpa)) 7 3 + cond (topSet n b) 5 6;
     }
 
+-- quotient and remainder with their signs, or a refusal; and the steps
 pub data PostAnswer : Type 0 where
   accepted : (quotient remainder steps : ℕ) → PostAnswer
   refused : (steps : ℕ) → PostAnswer

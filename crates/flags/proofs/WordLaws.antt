@@ -1,16 +1,17 @@
 -- The flags word taken apart and put together: each undoes the other within 08D5, and together never leaves it.
 -- Assumes nothing.
-use mathlib.Core.Path.{_≡_, refl, ap, subst, _∙_}
+use mathlib.Core.Path.{_≡_, refl, sym, ap, subst, _∙_}
 use mathlib.Core.Bool.{Bool, true, false}
 use Prim.Native.Nat.{ℕ, zero, suc, _+_, _*_, _/_, _%_, _^_, _≤_, _<_}
 use native.Mathlib.Nat.{mod-lt, mod-eq-of-lt}
 use native.Mathlib.Omega.{arith}
-use lib.Bits.{bitOr, or-shifted}
+use lib.Bits.{bitAnd, bitOr, or-shifted, and-mask, and-shr, and-mod, and-zero-r, and-le-r}
 use lib.Dec.{eqb, lit<}
 use borrow.Author.Tests.{eqb-true, eq-eqb}
 use Rattle.flags.specs.Numbers.{bit, isSet}
 use Rattle.flags.specs.Word.{wordOf, flagsOf, isFlags}
 use Rattle.flags.specs.declared.word.Flags.{Flags}
+use Rattle.flags.proofs.Masks.{digit-and}
 
 -- a word with no bit set but those six, all together 08D5
 pub record Within (w : ℕ) : Type 0 where
@@ -93,6 +94,41 @@ together-apart w h =
 
     fifth : w / 256 % 8 ≡ 0 → w < 4096 → w / 256 ≡ w / 2048 % 2 * 8
     fifth e l = omega arith
+
+-- ---- a word is one of flags exactly where the mask 08D5 keeps it
+
+kept-digit : (k w : ℕ) → 0x08D5 / 2 ^ k % 2 ≡ 1 → isSet k (bitAnd w 0x08D5) ≡ isSet k w
+kept-digit k w e =
+    let d = w / 2 ^ k % 2 in
+    ap (λ (x : ℕ). eqb x 1) (digit-and k w 0x08D5 ∙ ap (bitAnd d) e ∙ and-mask d 1 ∙ mod-eq-of-lt (mod-lt (w / 2 ^ k) (lit< tt)))
+
+cleared : (k j w : ℕ) → 0x08D5 / 2 ^ k % 2 ^ j ≡ 0 → bitAnd w 0x08D5 / 2 ^ k % 2 ^ j ≡ 0
+cleared k j w e =
+    ap (λ (x : ℕ). x % 2 ^ j) (and-shr w 0x08D5 k) ∙ and-mod (w / 2 ^ k) (0x08D5 / 2 ^ k) j ∙ ap (bitAnd (w / 2 ^ k % 2 ^ j)) e ∙ and-zero-r (w / 2 ^ k % 2 ^ j)
+
+masked-within : (w : ℕ) → Within (bitAnd w 0x08D5)
+masked-within w =
+    record {
+      bit1 = cleared 1 1 w refl;
+      bit3 = cleared 3 1 w refl;
+      bit5 = cleared 5 1 w refl;
+      bits8to10 = cleared 8 3 w refl;
+      above = omega (arith, and-le-r w 0x08D5);
+    }
+
+pub is-masked : (w : ℕ) → isFlags w ≡ eqb (bitAnd w 0x08D5) w
+unfolding isFlags flagsOf
+is-masked w =
+    let same : flagsOf w ≡ flagsOf (bitAnd w 0x08D5) =
+    λ i. record {
+      carry = sym (kept-digit 0 w refl) i;
+      parity = sym (kept-digit 2 w refl) i;
+      «aux_carry» = sym (kept-digit 4 w refl) i;
+      zero = sym (kept-digit 6 w refl) i;
+      sign = sym (kept-digit 7 w refl) i;
+      overflow = sym (kept-digit 11 w refl) i;
+    } in
+    ap (λ (v : ℕ). eqb v w) (ap wordOf same ∙ together-apart (bitAnd w 0x08D5) (masked-within w))
 
 -- a digit put in below a word that was shifted to make room
 abbrev pub pushed : ℕ → ℕ → ℕ → ℕ

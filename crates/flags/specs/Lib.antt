@@ -1,4 +1,5 @@
 pub mod Numbers
+pub mod Table
 pub mod Parity
 pub mod Word
 pub mod Szp

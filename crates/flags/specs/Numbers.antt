@@ -31,7 +31,7 @@ signed n x = cond (topSet n x) (subℕ x (2 ^ n)) (pos x)
 unfoldable pub fitsSigned : ℕ → ℤ → Bool
 fitsSigned n z = leZ (negℤ (pos (top n))) z && ltZ z (pos (top n))
 
--- the number that n bits stand for, signed or not, and its magnitude
+-- the number that n bits stand for, signed or not
 abbrev pub valued : Bool → ℕ → ℕ → ℤ
 valued true n x = signed n x
 valued false n x = pos x

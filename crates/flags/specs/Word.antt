@@ -6,13 +6,13 @@ use lib.Dec.{eqb}
 use Rattle.flags.specs.Numbers.{bit, isSet}
 use Rattle.flags.specs.declared.word.Flags.{Flags}
 
--- C 0001, P 0004, A 0010, Z 0040, S 0080, O 0800
+-- C is the word's bit 0, P its bit 2, A 4, Z 6, S 7 and O 11
 unfoldable pub wordOf : Flags → ℕ
 wordOf f =
     bit (f .carry) * 0x0001 + bit (f .parity) * 0x0004 + bit (f .«aux_carry») * 0x0010 + bit (f .zero) * 0x0040 + bit (f .sign) * 0x0080
     + bit (f .overflow) * 0x0800
 
--- the same bits by their places: 0, 2, 4, 6, 7 and 11
+-- the flags that a word holds, by the same places
 unfoldable pub flagsOf : ℕ → Flags
 flagsOf w =
     record {

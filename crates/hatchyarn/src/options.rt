@@ -45,7 +45,7 @@ pub fn asked_for() -> Asked {
 pub fn help() {
     io::write_all(
         STDOUT_FILENO,
-        b"hatchyarn: the arithmetic of the 8088, proved\n\nuse: hatchyarn [FILE...] < requests > answers\n\nA request is a line of 20 hexadecimal digits: op (2), mode (2), flags (4), X (8),\nY (4). Its answer is a line of 18: status (2), flags (4), steps (4), R (4), S (4).\nWith no FILE, or where FILE is -, requests are read from standard input. Each\nfile's last line may lack its line feed. A line that is not 20 digits long is\nanswered with status 1, however long it is.\n\n  --help      this text\n  --version   the version\n\nThere is no exit status to test. Nothing stands on standard error, and there is\nan answer for each line, exactly if all went well.\n",
+        b"hatchyarn: the arithmetic of the 8088, proved\n\nuse: hatchyarn [FILE...] < requests > answers\n\nA request is a line of 20 hexadecimal digits: op (2), mode (2), flags (4), X (8),\nY (4). Its answer is a line of 18: status (2), flags (4), steps (4), R (4), S (4).\nWith no FILE, or where FILE is -, requests are read from standard input. Each\nfile's last line may lack its line feed. A line that is not 20 bytes long is\nanswered with status 1, however long it is. hatchyarn(1) lists the ops, modes and\nstatuses.\n\n  --help      this text\n  --version   the version\n\nThere is no exit status to test. Nothing stands on standard error, and there is\nan answer for each line, exactly if all went well.\n",
     );
 }
 

@@ -40,7 +40,7 @@ runOf (suc room) atEnd text out =
 abbrev pub nextOf : ℕ → ℕ → ℕ → Bool → ℕ
 nextOf from end length atEnd = cond (ltb end length) (suc end) (cond atEnd length from)
 
--- how many lines a text has: one for each line feed, and with the mark one for a last byte that is none
+-- how many lines a text has: one for each line feed, and with the mark one more where the last byte is no line feed
 abbrev pub linesIn : Bool → List ℕ → ℕ
 linesIn atEnd [] = 0
 linesIn atEnd (b ∷ []) = cond (eqb b 0x0A) 1 (cond atEnd 1 0)

@@ -16,6 +16,7 @@ use Rattle.divide.specs.Divide.{Divided, accepted, refused, divide}
 use Rattle.bcd.specs.Ascii.{aaaOf}
 use Rattle.bcd.specs.Decimal.{daaOf}
 
+-- an example: what the definitions give, and what the scope says
 pub record Marked : Type 0 where
   pub gives : List ℕ
   pub says : List ℕ
@@ -24,6 +25,7 @@ pub record Marked : Type 0 where
 abbrev none : Flags
 none = flagsOf 0
 
+-- A alone
 abbrev onlyA : Flags
 onlyA = flagsOf 0x0010
 

@@ -1,5 +1,5 @@
--- C and O of a signed product: the manual's rule, the chart's and IMULCOF's sum are one rule. The manual: the upper half is not the
--- sign extension of the lower half. The chart: the product does not fit n signed bits. Assumes nothing.
+-- C and O of a signed product: the manual's rule, the chart's, that the product does not fit n signed bits, and IMULCOF's sum are one rule.
+-- Assumes nothing.
 use mathlib.Core.Path.{_≡_, refl, sym, ap, ap₂, _∙_}
 use mathlib.Core.Bool.{Bool, true, false, not, cond, xor, _&&_}
 use Prim.Native.Nat.{ℕ, zero, suc, _+_, _-_, _*_, _/_, _%_, _^_, _≤_, _<_}
@@ -15,15 +15,8 @@ use Rattle.flags.proofs.SignedLaws.{above, below, fits-diff, TopIs, top-is, sam
 use Rattle.flags.proofs.SignLaws.{signOf, plain, signed-by, neg-sign, mul-sign, wrapped-sign, plain-lt}
 use Rattle.alu.specs.Sum.{adc}
 use Rattle.multiply.specs.Routines.{signSum}
+use Rattle.multiply.specs.Manual.{extension, extends}
 use Rattle.multiply.specs.Multiply.{returned, productOf, halvesSum, carries, negates}
-
--- the upper half that only repeats the lower half's top bit
-abbrev pub extension : ℕ → ℕ → ℕ
-extension n lower = cond (topSet n lower) (2 ^ n - 1) 0
-
--- the upper half of 2n bits does so
-abbrev pub extends : ℕ → ℕ → Bool
-extends n q = eqb (q / 2 ^ n) (extension n (q % 2 ^ n))
 
 -- ---- IMULCOF's sum
 

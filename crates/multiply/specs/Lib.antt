@@ -2,3 +2,4 @@ pub mod Corx
 pub mod Views
 pub mod Routines
 pub mod Multiply
+pub mod Manual

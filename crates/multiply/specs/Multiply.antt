@@ -20,7 +20,7 @@ returned n s rep x y = cond rep (negℤ (valued s n x *ℤ valued s n y)) (value
 abbrev pub productOf : ℕ → Bool → Bool → ℕ → ℕ → ℕ
 productOf n s rep x y = wrapped (n + n) (returned n s rep x y)
 
--- the upper half of so many bits as a 16-bit signed word plus the lower half's top bit
+-- that sum of the halves of 2n bits
 abbrev pub halvesSum : ℕ → ℕ → ResultCoa
 halvesSum n bits = signSum n (bits / 2 ^ n) (bits % 2 ^ n)
 
@@ -40,6 +40,7 @@ mulFlags n true rep x y f =
 abbrev pub negates : ℕ → Bool → ℕ → ℕ → Bool
 negates n rep x y = xor (xor rep (topSet n x)) (topSet n y)
 
+-- one for each one of X, or of its magnitude, and 6n; then what the signs, NEGATE and the tail take, which is shorter where C is set
 abbrev pub mulSteps : ℕ → Bool → Bool → ℕ → ℕ → ℕ
 mulSteps n false rep x y =
     15 + 6 * n + ones x + cond (carries n false rep x y) 3 4 + cond rep (cond (topSet n y) 11 12) 0

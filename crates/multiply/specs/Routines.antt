@@ -48,7 +48,7 @@ mulcof n h f =
       steps = h .steps + cond (not (eqb (h .tmpa) 0)) 9 10;
     }
 
--- the upper half as a 16-bit signed word plus the lower half's top bit
+-- the upper half, widened to a signed word of 16 bits, and the lower half's top bit added to it
 abbrev pub signSum : ℕ → ℕ → ℕ → ResultCoa
 signSum n upper lower = adc 16 (wrapped 16 (signed n upper)) 0 (topSet n lower)
 

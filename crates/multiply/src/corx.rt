@@ -40,8 +40,7 @@ fn corx_round8(from: CorxRound8, tmpb: u8) -> CorxRound8
     }
 }
 
-// The walk is left from its middle when the counter is spent: the last round has no jump back. What
-// carry enters is shifted out again.
+// The last round leaves the loop before the jump back. What carry enters is shifted out again.
 pub fn corx8(tmpb: u8, tmpc: u8, carry: bool, steps: u16) -> Halves8
     requires { ⌜ steps < 1000 ⌝ }
     ensures { λ r. ⌜ halves8 r ≡ corx 8 tmpb tmpc steps ⌝ }
@@ -99,8 +98,7 @@ fn corx_round16(from: CorxRound16, tmpb: u16) -> CorxRound16
     }
 }
 
-// The walk is left from its middle when the counter is spent: the last round has no jump back. What
-// carry enters is shifted out again.
+// The last round leaves the loop before the jump back. What carry enters is shifted out again.
 pub fn corx16(tmpb: u16, tmpc: u16, carry: bool, steps: u16) -> Halves16
     requires { ⌜ steps < 1000 ⌝ }
     ensures { λ r. ⌜ halves16 r ≡ corx 16 tmpb tmpc steps ⌝ }

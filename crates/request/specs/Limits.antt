@@ -1,5 +1,5 @@
--- X is at most FF (8-bit), FFFF (16-bit, 8-bit dividend, AX) or any (16-bit dividend). Y is at most FF for 8-bit work, every count and AAD;
--- at most FFFF for other 16-bit work; 0 for NEG, AAA, AAS, DAA, DAS. Assumes nothing.
+-- How large X and Y may be. A dividend has twice the width and AX has sixteen bits; any other X is as wide as the work. A count and AAD's
+-- byte are bytes at either width, and where there is no right operand Y is 0. Assumes nothing.
 use Prim.Native.Nat.{ℕ}
 use Rattle.request.specs.declared.operation.Width.{Width}
 use Rattle.request.specs.declared.operation.Width.the-variants.{Byte, Word}

@@ -1,4 +1,3 @@
 pub mod FoundLaws
-pub mod Held
 pub mod LineLaws
 pub mod ReadBack

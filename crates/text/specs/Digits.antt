@@ -1,10 +1,9 @@
 -- Hexadecimal digits: both letter cases are read; capitals are written. Assumes nothing.
-use mathlib.Core.Path.{_≡_}
 use mathlib.Core.Bool.{Bool, cond, _&&_}
 use mathlib.Core.List.{List}
-use Prim.Native.Nat.{ℕ, _+_, _-_, _<_}
+use Prim.Native.Nat.{ℕ, _+_, _-_}
 use lib.Dec.{leb, ltb}
-use lib.ListN.{length, getD}
+use Rattle.flags.specs.Table.{Holds}
 
 -- b is one of low to high
 abbrev pub between : ℕ → ℕ → ℕ → Bool
@@ -17,11 +16,6 @@ digitOf b = cond (between 0x30 0x39 b) (b - 0x30) (cond (between 0x41 0x46 b) (b
 -- the byte that stands for a number below 16
 unfoldable pub capitalOf : ℕ → ℕ
 capitalOf k = cond (ltb k 10) (0x30 + k) (0x37 + k)
-
--- a table that holds a rule at every one of so many places
-pub record Holds (rule-of : ℕ → ℕ) (places : ℕ) (table : List ℕ) : Type 0 where
-  pub size : length table ≡ places
-  pub rule : (k : ℕ) → k < places → getD table k 0 ≡ rule-of k
 
 -- the digits, at every byte
 abbrev pub DigitTable : List ℕ → Type 0

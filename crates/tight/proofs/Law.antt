@@ -4,8 +4,7 @@ use mathlib.Core.List.{List}
 use Prim.Native.Nat.{ℕ, _<_}
 use lib.ListN.{length}
 use lib.Seq.{ext-getD}
-use Rattle.flags.specs.Parity.{ParityTable}
-use Rattle.text.specs.Digits.{Holds}
+use Rattle.flags.specs.Table.{Holds}
 
 -- a contract `r ≡ f x`
 pub same : {A : Type 0} {f : A} (r s : A) → r ≡ f → s ≡ f → r ≡ s
@@ -27,8 +26,4 @@ both r s o p e d = (same r s (e .0) (d .0), same o p (e .1) (d .1))
 -- a contract that names a table's rule at every place
 pub one-table : {rule-of : ℕ → ℕ} {places : ℕ} (r s : List ℕ) → Holds rule-of places r → Holds rule-of places s → r ≡ s
 one-table r s h k =
-    ext-getD 0 r s (h .size ∙ sym (k .size)) (λ i b. let c = subst (λ (n : ℕ). i < n) (h .size) b in h .rule i c ∙ sym (k .rule i c))
-
-pub one-parity-table : (r s : List ℕ) → ParityTable r → ParityTable s → r ≡ s
-one-parity-table r s h k =
     ext-getD 0 r s (h .size ∙ sym (k .size)) (λ i b. let c = subst (λ (n : ℕ). i < n) (h .size) b in h .rule i c ∙ sym (k .rule i c))

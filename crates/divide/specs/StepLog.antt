@@ -1,0 +1,14 @@
+-- What the public step log may tell of a signed divide. Assumes nothing.
+use Prim.Native.Nat.{ℕ, _+_, _*_, _%_}
+use mathlib.Core.Bool.{true}
+use lib.Count.{ones}
+use lib.IntN.{natAbs}
+use Rattle.divide.specs.Divide.{quotientOf}
+
+-- the quotient's magnitude: the shelf
+abbrev pub shelf : ℕ → ℕ → ℕ → ℕ
+shelf n d b = natAbs (quotientOf n true d b)
+
+-- the ones in it, and 2 more where it is odd
+abbrev pub told : ℕ → ℕ
+told q = ones q + 2 * (q % 2)
