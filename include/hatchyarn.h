@@ -20,7 +20,7 @@ extern "C" {
 
 /* How a request was answered. */
 enum hatchyarn_status {
-    HATCHYARN_DONE = 0,           /* flags, steps and results are those of the chip */
+    HATCHYARN_DONE = 0,           /* answered as below */
     HATCHYARN_BAD_LENGTH = 1,     /* the line is not 20 bytes long */
     HATCHYARN_BAD_DIGIT = 2,      /* a byte of the line is no hexadecimal digit */
     HATCHYARN_BAD_OP = 3,         /* the op is not listed */
@@ -72,7 +72,19 @@ enum hatchyarn_flag {
     HATCHYARN_FLAG_O = 0x0800
 };
 
-/* What the chip gives. After the statuses 3 to 5 all of it is 0. After HATCHYARN_DIVIDE_REFUSED
+/* What the operation gives. It sets these flags, and the others are as handed in:
+ *
+ *   ADD, ADC, SUB, SBB, NEG, SHL_AF              C, O, A
+ *   SHL, ROL, ROR, RCL, RCR                      C, O       (a count of 0 clears them, but RCL and
+ *   SHR, SAR                                     C           RCR give C back)
+ *   unsigned multiply                            C, O
+ *   signed multiply, divide, AAA, AAS, DAA, DAS  all six
+ *   AAD                                          P, Z, S
+ *
+ * So ADD to SHL_AF are what the chip's ALU does and not whole instructions, which set P, Z and S by
+ * the result as well. They count no steps, and neither do DAA and DAS.
+ *
+ * After the statuses 3 to 5 all of it is 0. After HATCHYARN_DIVIDE_REFUSED
  * the flags are those handed in, the steps are those up to the trap, and r and s are 0. */
 struct hatchyarn_answer {
     uint16_t flags;

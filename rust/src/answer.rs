@@ -6,7 +6,8 @@ use std::fmt;
 /// What the chip gives.
 #[derive(Clone, Copy, Debug, PartialEq, Eq, Hash)]
 pub struct Answer {
-    /// All six flags as they stand afterwards.
+    /// All six flags as they stand afterwards: those that the operation sets, and the others as
+    /// handed in.
     pub flags: Flags,
     /// Steps of the microcode; 0 for operations that count none.
     pub steps: u16,

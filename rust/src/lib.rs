@@ -1,7 +1,7 @@
 //! The arithmetic of Intel's 8088, proved.
 //!
 //! An 8088 adds, subtracts, shifts, rotates, multiplies, divides and adjusts decimal digits. This
-//! crate gives its results, its six flags and the steps of its microcode. The work is done by a
+//! crate gives its results, its flags and the steps of its microcode. The work is done by a
 //! static library whose every function is proved; what stands here only carries numbers to it and
 //! back.
 //!

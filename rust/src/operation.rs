@@ -3,6 +3,9 @@ use crate::flags::Flags;
 use crate::raw;
 
 /// Additions and subtractions of two operands. `Adc` and `Sbb` take the carry flag in.
+///
+/// They set C, O and A, as the ALU does, and so does NEG. P, Z and S, which the chip's instruction
+/// sets by the result as well, stay as handed in. No step is counted.
 #[derive(Clone, Copy, Debug, PartialEq, Eq, Hash)]
 pub enum Sum {
     Add = 0x00,
@@ -13,6 +16,9 @@ pub enum Sum {
 
 /// Shifts and rotates. The count runs in full, from 0 to 255: an 8088 does not mask it. `Rcl` and
 /// `Rcr` take the carry flag in.
+///
+/// `Shr` and `Sar` set C, the others C and O, and SHL with A also A; a count of 0 clears them, but
+/// `Rcl` and `Rcr` give C back. P, Z and S stay as handed in. No step is counted.
 #[derive(Clone, Copy, Debug, PartialEq, Eq, Hash)]
 pub enum Shift {
     Shl = 0x05,

@@ -42,15 +42,21 @@ pub fn asked_for() -> Asked {
     Asked::Answers
 }
 
+// What was asked for is shown, or it is said that it could not be.
+fn show(text: &[u8]) {
+    if !io::write_all(STDOUT_FILENO, text) {
+        os::fail(b"hatchyarn: standard output");
+    }
+}
+
 pub fn help() {
-    io::write_all(
-        STDOUT_FILENO,
+    show(
         b"hatchyarn: the arithmetic of the 8088, proved\n\nuse: hatchyarn [FILE...] < requests > answers\n\nA request is a line of 20 hexadecimal digits: op (2), mode (2), flags (4), X (8),\nY (4). Its answer is a line of 18: status (2), flags (4), steps (4), R (4), S (4).\nWith no FILE, or where FILE is -, requests are read from standard input. Each\nfile's last line may lack its line feed. A line that is not 20 bytes long is\nanswered with status 1, however long it is. hatchyarn(1) lists the ops, modes and\nstatuses.\n\n  --help      this text\n  --version   the version\n\nThere is no exit status to test. Nothing stands on standard error, and there is\nan answer for each line, exactly if all went well.\n",
     );
 }
 
 pub fn version() {
-    io::write_all(STDOUT_FILENO, b"hatchyarn 0.1.0\n");
+    show(b"hatchyarn 0.1.0\n");
 }
 
 pub fn unknown(i: usize) {
@@ -58,5 +64,8 @@ pub fn unknown(i: usize) {
     let n = os::arg(i, &mut argument);
     io::write_all(STDERR_FILENO, b"hatchyarn: unknown option ");
     io::write_all(STDERR_FILENO, &argument[..n]);
-    io::write_all(STDERR_FILENO, b"; --help lists the options\n");
+    io::write_all(
+        STDERR_FILENO,
+        b"; --help lists the options, and ./NAME is a file\n",
+    );
 }
