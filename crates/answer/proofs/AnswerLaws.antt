@@ -24,8 +24,8 @@ use Rattle.request.specs.declared.operation.Operation.the-variants.{Alu as OfAl
 use Rattle.request.specs.declared.judge.Request.{Request}
 use Rattle.request.specs.declared.judge.Judged.{Judged}
 use Rattle.request.proofs.RequestLaws.{InRange}
-use Rattle.answer.specs.Charted.{answerOf, plainOf, ofC, ofCo, ofCoa, aluOf, ofProduct8, ofProduct16, ofDivided, ofAdjusted, adjustOf, multipliedOf, dividedOf, chartedBy, charted}
-use Rattle.answer.specs.Asked.{answered, asked}
+use Rattle.answer.specs.Charted.{wholeOf, plainOf, ofC, ofCo, ofCoa, aluOf, ofProduct8, ofProduct16, ofDivided, ofAdjusted, adjustOf, multipliedOf, dividedOf, chartedBy, charted}
+use Rattle.answer.specs.Asked.{ofJudged, asked}
 use Rattle.answer.specs.declared.answer.Answer.{Answer}
 
 -- ---- the ALU
@@ -61,12 +61,12 @@ counted x y f {k = k} told most h =
 -- ---- multiply, divide and the adjusts
 
 -- the halves come back from the product that they make up
-pub halves-back : (f : Flags) (steps upper lower : ℕ) → lower < 0x1_0000 → {a : Answer} → a ≡ answerOf 0 f steps upper lower
+pub halves-back : (f : Flags) (steps upper lower : ℕ) → lower < 0x1_0000 → {a : Answer} → a ≡ wholeOf 0 f steps upper lower
     → a ≡ ofProduct16 (record { product = upper * 0x1_0000 + lower; flags = f; steps = steps })
 halves-back f steps upper lower h e =
     let r : upper ≡ (upper * 0x1_0000 + lower) / 0x1_0000 = omega arith in
     let s : lower ≡ (upper * 0x1_0000 + lower) % 0x1_0000 = omega arith in
-    e ∙ ap₂ (answerOf 0 f steps) r s
+    e ∙ ap₂ (wholeOf 0 f steps) r s
 
 module _ (mode : Mode) (x y : ℕ) (f : Flags) where
   abbrev Product : ℕ → ℕ → ℕ → Multiplied
@@ -157,6 +157,6 @@ module _ (request : Request) (fits : InRange (request .operation) (request .x) (
       by-operation told (p ∙ ap₂ (λ (u v : ℕ). ofAdjusted (adjustOf decimal u v (request .flags))) x y)
 
 -- what the judge told, and what the arm answered
-pub asked-as : (op mode flags x y : ℕ) {j k : Judged} → j ≡ judged op mode flags x y → j ≡ k → {a : Answer} → a ≡ answered k → a ≡ asked op mode flags x y
+pub asked-as : (op mode flags x y : ℕ) {j k : Judged} → j ≡ judged op mode flags x y → j ≡ k → {a : Answer} → a ≡ ofJudged k → a ≡ asked op mode flags x y
 unfolding asked
-asked-as op mode flags x y e told p = p ∙ ap answered (sym told ∙ e)
+asked-as op mode flags x y e told p = p ∙ ap ofJudged (sym told ∙ e)

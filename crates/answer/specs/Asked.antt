@@ -12,15 +12,15 @@ abbrev pub zeros : ℕ → Answer
 zeros status = record { status = status; flags = 0; steps = 0; r = 0; s = 0 }
 
 -- an admitted request by the charts, else the status of its refusal
-abbrev pub answered : Judged → Answer
-answered (Admitted request) = charted request
-answered Unlisted = zeros 3
-answered WrongMode = zeros 4
-answered TooLarge = zeros 5
+abbrev pub ofJudged : Judged → Answer
+ofJudged (Admitted request) = charted request
+ofJudged Unlisted = zeros 3
+ofJudged WrongMode = zeros 4
+ofJudged TooLarge = zeros 5
 
 -- judged, then answered
 unfoldable pub asked : ℕ → ℕ → ℕ → ℕ → ℕ → Answer
-asked op mode flags x y = answered (judged op mode flags x y)
+asked op mode flags x y = ofJudged (judged op mode flags x y)
 
 -- in parts: the status
 abbrev pub statusOf : ℕ → ℕ → ℕ → ℕ → ℕ → ℕ

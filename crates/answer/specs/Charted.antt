@@ -24,12 +24,12 @@ use Rattle.request.specs.declared.judge.Request.{Request}
 use Rattle.answer.specs.declared.answer.Answer.{Answer}
 
 -- the status, the flags as a word, the steps, R and S
-abbrev pub answerOf : ℕ → Flags → ℕ → ℕ → ℕ → Answer
-answerOf status f steps r s = record { status = status; flags = wordOf f; steps = steps; r = r; s = s }
+abbrev pub wholeOf : ℕ → Flags → ℕ → ℕ → ℕ → Answer
+wholeOf status f steps r s = record { status = status; flags = wordOf f; steps = steps; r = r; s = s }
 
 -- status 0, no step and one result
 abbrev pub plainOf : Flags → ℕ → Answer
-plainOf f r = answerOf 0 f 0 r 0
+plainOf f r = wholeOf 0 f 0 r 0
 
 -- the flags that an operation names go over those handed in
 abbrev pub ofC : ResultC → Flags → Answer
@@ -61,20 +61,20 @@ aluOf n ShlAf x y f = ofCoa (shlAf n x y) f
 
 -- R is an 8-bit product
 abbrev pub ofProduct8 : Multiplied → Answer
-ofProduct8 m = answerOf 0 (m .flags) (m .steps) (m .product) 0
+ofProduct8 m = wholeOf 0 (m .flags) (m .steps) (m .product) 0
 
 -- R is the upper half of a 16-bit product, S the lower
 abbrev pub ofProduct16 : Multiplied → Answer
-ofProduct16 m = answerOf 0 (m .flags) (m .steps) (m .product / 0x1_0000) (m .product % 0x1_0000)
+ofProduct16 m = wholeOf 0 (m .flags) (m .steps) (m .product / 0x1_0000) (m .product % 0x1_0000)
 
 -- either refusal is status 6
 abbrev pub ofDivided : Divided → Answer
-ofDivided (accepted quotient remainder f steps) = answerOf 0 f steps quotient remainder
-ofDivided (refused refusal f steps) = answerOf 6 f steps 0 0
+ofDivided (accepted quotient remainder f steps) = wholeOf 0 f steps quotient remainder
+ofDivided (refused refusal f steps) = wholeOf 6 f steps 0 0
 
 -- R is AX
 abbrev pub ofAdjusted : Adjusted → Answer
-ofAdjusted a = answerOf 0 (a .flags) (a .steps) (a .ax) 0
+ofAdjusted a = wholeOf 0 (a .flags) (a .steps) (a .ax) 0
 
 -- the decimal chart
 abbrev pub adjustOf : Decimal → ℕ → ℕ → Flags → Adjusted

@@ -2,7 +2,7 @@
 ghost use mathlib.Core.Path.{_≡_};
 ghost use Rattle.divide.specs.Views.{divided8, divided16};
 ghost use Rattle.multiply.specs.Views.{product8, product16};
-ghost use Rattle.answer.specs.Charted.{answerOf, plainOf, ofProduct8, ofProduct16, ofDivided, ofAdjusted, adjustOf};
+ghost use Rattle.answer.specs.Charted.{wholeOf, plainOf, ofProduct8, ofProduct16, ofDivided, ofAdjusted, adjustOf};
 use bcd::adjust::Adjusted;
 use bcd::ascii;
 use bcd::decimal;
@@ -24,7 +24,7 @@ pub struct Answer {
 
 // The one place where an answer's flags are put into their word.
 fn whole(status: u8, flags: Flags, steps: u16, r: u16, s: u16) -> Answer
-    ensures { λ a. ⌜ a ≡ answerOf status flags steps r s ⌝ }
+    ensures { λ a. ⌜ a ≡ wholeOf status flags steps r s ⌝ }
 {
     Answer {
         status,
