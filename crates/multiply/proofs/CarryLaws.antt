@@ -107,7 +107,8 @@ fits-tells n true (suc m) hn h =
 
 -- ---- the signed product
 
-wrapped-lt : (n : ℕ) (z : ℤ) → wrapped n z < 2 ^ n
+-- the low n bits of a number are n bits
+pub wrapped-lt : (n : ℕ) (z : ℤ) → wrapped n z < 2 ^ n
 unfolding wrapped
 wrapped-lt n (pos k) = mod-lt k (pow-pos n)
 wrapped-lt n (negsuc k) = omega (arith, pow-pos n)

@@ -1,0 +1,67 @@
+-- The digits of R and S above the width are 0. Assumes nothing.
+use mathlib.Core.Path.{_≡_, refl}
+use mathlib.Core.Bool.{Bool, true, false}
+use Prim.Native.Nat.{ℕ, zero, suc, _+_, _-_, _*_, _/_, _^_, _<_}
+use native.Mathlib.Nat.{mod-lt}
+use native.Mathlib.Omega.{arith}
+use lib.Pow.{pow-pos}
+use Rattle.flags.specs.Numbers.{bit, isSet, topSet}
+use Rattle.flags.specs.declared.word.Flags.{Flags}
+use Rattle.alu.specs.Step.{Shift, Shl, Shr, Sar, Rol, Ror, Rcl, Rcr, Step, left, right, step, steps, before}
+use Rattle.alu.specs.Shift.{leftward, rightward, downward}
+use Rattle.alu.specs.Sum.{adc, sbb}
+use Rattle.multiply.proofs.CarryLaws.{wrapped-lt}
+use Rattle.divide.specs.Divide.{accepts, quotientOf, remainderOf, returned, divide}
+use Rattle.request.specs.declared.operation.Alu.{Alu}
+use Rattle.request.specs.declared.operation.Alu.the-variants as Ops
+use Rattle.answer.specs.Charted.{aluOf, ofDivided}
+
+-- ---- n bits stay n bits
+
+right-keeps : (n : ℕ) (enters : Bool) (x : ℕ) → x < 2 ^ n → (bit enters * 2 ^ n + x) / 2 < 2 ^ n
+right-keeps n true x h = omega arith
+right-keeps n false x h = omega arith
+
+step-keeps : (n : ℕ) (shift : Shift) (s : Step) → s .value < 2 ^ n → step n shift s .value < 2 ^ n
+unfolding step left right
+step-keeps n Shl s h = mod-lt (s .value * 2 + 0) (pow-pos n)
+step-keeps n Rol s h = mod-lt (s .value * 2 + bit (topSet n (s .value))) (pow-pos n)
+step-keeps n Rcl s h = mod-lt (s .value * 2 + bit (s .carry)) (pow-pos n)
+step-keeps n Shr s h = right-keeps n false (s .value) h
+step-keeps n Sar s h = right-keeps n (topSet n (s .value)) (s .value) h
+step-keeps n Ror s h = right-keeps n (isSet 0 (s .value)) (s .value) h
+step-keeps n Rcr s h = right-keeps n (s .carry) (s .value) h
+
+steps-keep : (n : ℕ) (shift : Shift) (k : ℕ) (s : Step) → s .value < 2 ^ n → steps n shift k s .value < 2 ^ n
+unfolding steps
+steps-keep n shift zero s h = h
+steps-keep n shift (suc k) s h = step-keeps n shift (steps n shift k s) (steps-keep n shift k s h)
+
+-- ---- R of an ALU operation
+
+pub alu-fits : (n : ℕ) (alu : Alu) (x y : ℕ) (f : Flags) → x < 2 ^ n → aluOf n alu x y f .r < 2 ^ n
+unfolding adc sbb leftward rightward downward
+alu-fits n Ops.Add x y f h = mod-lt (x + y + 0) (pow-pos n)
+alu-fits n Ops.Adc x y f h = mod-lt (x + y + bit (f .carry)) (pow-pos n)
+alu-fits n Ops.Sub x y f h = mod-lt (2 ^ n + x - (y + 0)) (pow-pos n)
+alu-fits n Ops.Sbb x y f h = mod-lt (2 ^ n + x - (y + bit (f .carry))) (pow-pos n)
+alu-fits n Ops.Neg x y f h = mod-lt (2 ^ n + 0 - (x + 0)) (pow-pos n)
+alu-fits n Ops.Shl x y f h = steps-keep n Shl y (before x false) h
+alu-fits n Ops.Shr x y f h = steps-keep n Shr y (before x false) h
+alu-fits n Ops.Sar x y f h = steps-keep n Sar y (before x false) h
+alu-fits n Ops.Rol x y f h = steps-keep n Rol y (before x false) h
+alu-fits n Ops.Ror x y f h = steps-keep n Ror y (before x false) h
+alu-fits n Ops.Rcl x y f h = steps-keep n Rcl y (before x (f .carry)) h
+alu-fits n Ops.Rcr x y f h = steps-keep n Rcr y (before x (f .carry)) h
+alu-fits n Ops.ShlAf x y f h = steps-keep n Shl y (before x false) h
+
+-- ---- R and S of a divide
+
+module _ (n : ℕ) (s rep : Bool) (d b : ℕ) (f : Flags) where
+  by : (x : Bool) → accepts n s d b ≡ x → (ofDivided (divide n s rep d b f) .r < 2 ^ n) × (ofDivided (divide n s rep d b f) .s < 2 ^ n)
+  unfolding divide
+  by true e = rw e (wrapped-lt n (returned s rep (quotientOf n s d b)), wrapped-lt n (remainderOf n s d b))
+  by false e = rw e (pow-pos n, pow-pos n)
+
+  pub divided-fits : (ofDivided (divide n s rep d b f) .r < 2 ^ n) × (ofDivided (divide n s rep d b f) .s < 2 ^ n)
+  divided-fits = by (accepts n s d b) refl
