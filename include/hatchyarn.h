@@ -81,8 +81,8 @@ enum hatchyarn_flag {
  *   signed multiply, divide, AAA, AAS, DAA, DAS  all six
  *   AAD                                          P, Z, S
  *
- * So ADD to SHL_AF are what the chip's ALU does and not whole instructions, which set P, Z and S by
- * the result as well. They count no steps, and neither do DAA and DAS.
+ * So ADD to SHL_AF are what the chip's ALU does and not whole instructions: P, Z and S of a sum or a
+ * shift are left to the caller. They count no steps, and neither do DAA and DAS.
  *
  * After the statuses 3 to 5 all of it is 0. After HATCHYARN_DIVIDE_REFUSED
  * the flags are those handed in, the steps are those up to the trap, and r and s are 0. */

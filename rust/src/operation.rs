@@ -4,8 +4,8 @@ use crate::raw;
 
 /// Additions and subtractions of two operands. `Adc` and `Sbb` take the carry flag in.
 ///
-/// They set C, O and A, as the ALU does, and so does NEG. P, Z and S, which the chip's instruction
-/// sets by the result as well, stay as handed in. No step is counted.
+/// They set C, O and A, as the ALU does, and so does NEG. P, Z and S stay as handed in; they are
+/// left to the caller. No step is counted.
 #[derive(Clone, Copy, Debug, PartialEq, Eq, Hash)]
 pub enum Sum {
     Add = 0x00,
