@@ -10,8 +10,8 @@ use crate::result::ResultC16;
 use crate::result::ResultCo8;
 use crate::result::ResultCo16;
 use crate::step;
-use flags::width::Byte;
-use flags::width::Word;
+use flags::width::Width8;
+use flags::width::Width16;
 
 // What a rotate takes in again: the bit that left a step before, which is C, or the one that leaves.
 fn again(through: bool, carry: bool, leaves: bool) -> bool
@@ -45,7 +45,7 @@ pub fn leftward8(rotates: bool, through: bool, value: u8, count: u8, carry: bool
     let mut result = value;
     let mut last = carry as u8;
     for _ in 0..count {
-        let leaves = result >> (Byte::BITS - 1);
+        let leaves = result >> (Width8::BITS - 1);
         let enters = enters8(rotates, through, last, leaves);
         result = (result << 1) | enters;
         last = leaves;
@@ -53,7 +53,7 @@ pub fn leftward8(rotates: bool, through: bool, value: u8, count: u8, carry: bool
     ResultCo8 {
         result,
         carry: last != 0,
-        overflow: (last != 0) != (result & Byte::TOP != 0),
+        overflow: (last != 0) != (result & Width8::TOP != 0),
     }
 }
 
@@ -79,7 +79,7 @@ pub fn rightward8(through: bool, value: u8, count: u8, carry: bool) -> ResultCo8
     ResultCo8 {
         result,
         carry: last,
-        overflow: (result & Byte::TOP != 0) != (result & (Byte::TOP >> 1) != 0),
+        overflow: (result & Width8::TOP != 0) != (result & (Width8::TOP >> 1) != 0),
     }
 }
 
@@ -88,7 +88,7 @@ pub fn rightward8(through: bool, value: u8, count: u8, carry: bool) -> ResultCo8
 pub fn downward8(signed: bool, value: u8, count: u8) -> ResultC8
     ensures { λ r. ⌜ c8 r ≡ downward 8 (downBy signed) value count ⌝ }
 {
-    let sign = signed & (value & Byte::TOP != 0);
+    let sign = signed & (value & Width8::TOP != 0);
     let fill = sign as u32 * 0x100;
     let mut wide = value as u32 * 2;
     for _ in 0..count {
@@ -125,7 +125,7 @@ pub fn leftward16(rotates: bool, through: bool, value: u16, count: u8, carry: bo
     let mut result = value;
     let mut last = carry as u16;
     for _ in 0..count {
-        let leaves = result >> (Word::BITS - 1);
+        let leaves = result >> (Width16::BITS - 1);
         let enters = enters16(rotates, through, last, leaves);
         result = (result << 1) | enters;
         last = leaves;
@@ -133,7 +133,7 @@ pub fn leftward16(rotates: bool, through: bool, value: u16, count: u8, carry: bo
     ResultCo16 {
         result,
         carry: last != 0,
-        overflow: (last != 0) != (result & Word::TOP != 0),
+        overflow: (last != 0) != (result & Width16::TOP != 0),
     }
 }
 
@@ -159,7 +159,7 @@ pub fn rightward16(through: bool, value: u16, count: u8, carry: bool) -> ResultC
     ResultCo16 {
         result,
         carry: last,
-        overflow: (result & Word::TOP != 0) != (result & (Word::TOP >> 1) != 0),
+        overflow: (result & Width16::TOP != 0) != (result & (Width16::TOP >> 1) != 0),
     }
 }
 
@@ -168,7 +168,7 @@ pub fn rightward16(through: bool, value: u16, count: u8, carry: bool) -> ResultC
 pub fn downward16(signed: bool, value: u16, count: u8) -> ResultC16
     ensures { λ r. ⌜ c16 r ≡ downward 16 (downBy signed) value count ⌝ }
 {
-    let sign = signed & (value & Word::TOP != 0);
+    let sign = signed & (value & Width16::TOP != 0);
     let fill = sign as u32 * 0x1_0000;
     let mut wide = value as u32 * 2;
     for _ in 0..count {

@@ -4,8 +4,8 @@ ghost use Rattle.alu.specs.Sum.{sub, sbb, neg};
 ghost use Rattle.alu.specs.Views.{coa8, coa16};
 use crate::result::ResultCoa8;
 use crate::result::ResultCoa16;
-use flags::width::Byte;
-use flags::width::Word;
+use flags::width::Width8;
+use flags::width::Width16;
 
 pub fn alu_neg8(value: u8) -> ResultCoa8
     ensures { λ r. ⌜ coa8 r ≡ neg 8 value ⌝ }
@@ -30,7 +30,7 @@ pub fn alu_sbb8(lhs: u8, rhs: u8, carry_in: bool) -> ResultCoa8
         result,
         carry: (lhs as u16) < taken,
         // What is left and what is taken away both differ in sign from the whole.
-        overflow: (result ^ lhs) & (rhs ^ lhs) & Byte::TOP != 0,
+        overflow: (result ^ lhs) & (rhs ^ lhs) & Width8::TOP != 0,
         aux_carry: (result ^ rhs ^ lhs) & 0x10 != 0,
     }
 }
@@ -58,7 +58,7 @@ pub fn alu_sbb16(lhs: u16, rhs: u16, carry_in: bool) -> ResultCoa16
         result,
         carry: (lhs as u32) < taken,
         // What is left and what is taken away both differ in sign from the whole.
-        overflow: (result ^ lhs) & (rhs ^ lhs) & Word::TOP != 0,
+        overflow: (result ^ lhs) & (rhs ^ lhs) & Width16::TOP != 0,
         aux_carry: (result ^ rhs ^ lhs) & 0x10 != 0,
     }
 }

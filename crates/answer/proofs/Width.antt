@@ -11,7 +11,7 @@ use Rattle.alu.specs.Step.{Shift, Shl, Shr, Sar, Rol, Ror, Rcl, Rcr, Step, left
 use Rattle.alu.specs.Shift.{leftward, rightward, downward}
 use Rattle.alu.specs.Sum.{adc, sbb}
 use Rattle.multiply.proofs.CarryLaws.{wrapped-lt}
-use Rattle.divide.specs.Divide.{accepts, quotientOf, remainderOf, returned, divide}
+use Rattle.divide.specs.Divide.{accepts, quotientOf, remainderOf, quotientReturned, divide}
 use Rattle.request.specs.declared.operation.Alu.{Alu}
 use Rattle.request.specs.declared.operation.Alu.the-variants as Ops
 use Rattle.answer.specs.Charted.{aluOf, ofDivided}
@@ -60,7 +60,7 @@ alu-fits n Ops.ShlAf x y f h = steps-keep n Shl y (before x false) h
 module _ (n : ℕ) (s rep : Bool) (d b : ℕ) (f : Flags) where
   by : (x : Bool) → accepts n s d b ≡ x → (ofDivided (divide n s rep d b f) .r < 2 ^ n) × (ofDivided (divide n s rep d b f) .s < 2 ^ n)
   unfolding divide
-  by true e = rw e (wrapped-lt n (returned s rep (quotientOf n s d b)), wrapped-lt n (remainderOf n s d b))
+  by true e = rw e (wrapped-lt n (quotientReturned s rep (quotientOf n s d b)), wrapped-lt n (remainderOf n s d b))
   by false e = rw e (pow-pos n, pow-pos n)
 
   pub divided-fits : (ofDivided (divide n s rep d b f) .r < 2 ^ n) × (ofDivided (divide n s rep d b f) .s < 2 ^ n)

@@ -76,7 +76,7 @@ fn divided(mode: Mode, x: u32, y: u16, flags: Flags) -> Answer
 }
 
 // The answer to an admitted request.
-pub fn answer_request(request: Request) -> Answer
+fn answer_request(request: Request) -> Answer
     requires { ⌜ (request .x ≤ xMost (request .operation)) × (request .y ≤ yMost (request .operation)) ⌝ }
     ensures { λ a. ⌜ a ≡ charted request ⌝ }
 {
@@ -111,7 +111,7 @@ pub fn refused(status: u8) -> Answer
 }
 
 // The table of statuses from 3 on.
-fn ask(op: u8, mode: u8, flags: u16, x: u32, y: u16) -> Answer
+pub fn ask(op: u8, mode: u8, flags: u16, x: u32, y: u16) -> Answer
     ensures { λ a. ⌜ a ≡ asked op mode flags x y ⌝ }
 {
     match judge::judge(op, mode, flags, x, y) {

@@ -1,7 +1,7 @@
 -- What the decimal adjusts share. Assumes nothing.
-use mathlib.Core.Bool.{Bool, _&&_, _||_}
+use mathlib.Core.Bool.{Bool, _||_}
 use Prim.Native.Nat.{ℕ, _/_, _%_}
-use lib.Dec.{leb, ltb}
+use lib.Dec.{ltb}
 
 -- the upper half of AX
 abbrev pub ahOf : ℕ → ℕ
@@ -10,10 +10,6 @@ ahOf ax = ax / 256
 -- the lower half
 abbrev pub alOf : ℕ → ℕ
 alOf ax = ax % 256
-
--- x is one of low to high
-abbrev pub between : ℕ → ℕ → ℕ → Bool
-between low high x = leb low x && leb x high
 
 -- the low digit's test: it is above 9, or A is set
 abbrev pub adjusts : ℕ → Bool → Bool

@@ -4,9 +4,10 @@ use Prim.Native.Nat.{ℕ, _+_, _-_, _*_, _%_}
 use lib.Count.{ones}
 use lib.Dec.{leb, eqb}
 use Rattle.flags.specs.Parity.{evenOnes}
+use Rattle.flags.specs.Numbers.{between}
 use Rattle.flags.specs.Szp.{szp}
 use Rattle.flags.specs.declared.word.Flags.{Flags}
-use Rattle.bcd.specs.Adjust.{ahOf, alOf, between, adjusts}
+use Rattle.bcd.specs.Adjust.{ahOf, alOf, adjusts}
 use Rattle.bcd.specs.declared.adjust.Adjusted.{Adjusted}
 
 -- what AAA and AAS leave. AL is cut to its low digit, but Z and P are of AL before it is; an adjust sets A and C and takes 6 steps, none

@@ -3,9 +3,10 @@ use mathlib.Core.Bool.{Bool, cond, _||_}
 use Prim.Native.Nat.{ℕ, _+_, _-_, _*_, _%_}
 use lib.Dec.{ltb}
 use Rattle.flags.specs.Word.{setCOA}
+use Rattle.flags.specs.Numbers.{between}
 use Rattle.flags.specs.Szp.{szp}
 use Rattle.flags.specs.declared.word.Flags.{Flags}
-use Rattle.bcd.specs.Adjust.{ahOf, alOf, between, adjusts}
+use Rattle.bcd.specs.Adjust.{ahOf, alOf, adjusts}
 use Rattle.bcd.specs.declared.adjust.Adjusted.{Adjusted}
 
 -- the high digit's test: C is set, or AL is above 99, or above 9F with A

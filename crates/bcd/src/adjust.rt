@@ -1,7 +1,8 @@
 // What the adjusts share: the halves of AX, the test of the low digit, and the answer.
 // Tests are joined by `&` and `|`, which look at both sides: no branch, and one way through.
 ghost use mathlib.Core.Path.{_≡_};
-ghost use Rattle.bcd.specs.Adjust.{ahOf, alOf, between, adjusts};
+ghost use Rattle.flags.specs.Numbers.{between};
+ghost use Rattle.bcd.specs.Adjust.{ahOf, alOf, adjusts};
 use flags::word::Flags;
 
 pub struct Adjusted {
@@ -22,7 +23,7 @@ pub fn al(ax: u16) -> u8
     (ax % 0x100) as u8
 }
 
-pub fn within(low: u8, high: u8, x: u8) -> bool
+pub fn between(low: u8, high: u8, x: u8) -> bool
     ensures { λ r. ⌜ r ≡ between low high x ⌝ }
 {
     (low <= x) & (x <= high)

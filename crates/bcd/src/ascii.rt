@@ -5,7 +5,7 @@ ghost use Rattle.bcd.specs.Ascii.{ascii, aaaO, aaaS, aasO, aasS, aaaOf, 
 use crate::adjust;
 use crate::adjust::Adjusted;
 use flags::parity;
-use flags::width::Byte;
+use flags::width::Width8;
 use flags::word::Flags;
 use multiply::corx;
 
@@ -42,8 +42,8 @@ pub fn aaa(ax: u16, flags: Flags, table: &[u8; 256]) -> Adjusted
 {
     let ah = adjust::ah(ax);
     let al = adjust::al(ax);
-    let overflow = adjust::within(0x7A, 0x7F, al);
-    let sign = adjust::within(0x7A, 0xF9, al);
+    let overflow = adjust::between(0x7A, 0x7F, al);
+    let sign = adjust::between(0x7A, 0xF9, al);
     if adjust::low_digit_adjusts(al, flags.aux_carry) {
         let up = std::num::wrapping_add_u8(ah, 1);
         let new_al = std::num::wrapping_add_u8(al, 6);
@@ -56,7 +56,7 @@ pub fn aaa(ax: u16, flags: Flags, table: &[u8; 256]) -> Adjusted
 fn aas_overflow(al: u8, aux_carry: bool) -> bool
     ensures { λ r. ⌜ r ≡ aasO al «aux_carry» ⌝ }
 {
-    aux_carry & adjust::within(0x80, 0x85, al)
+    aux_carry & adjust::between(0x80, 0x85, al)
 }
 
 fn aas_sign(al: u8, aux_carry: bool) -> bool
@@ -95,7 +95,7 @@ pub fn aad(ax: u16, imm8: u8, flags: Flags, table: &[u8; 256]) -> Adjusted
     let al = std::num::wrapping_add_u8(adjust::al(ax), product.tmpc);
     Adjusted {
         ax: al as u16,
-        flags: Byte::set_szp_flags_from_result_u8(flags, al, table),
+        flags: Width8::set_szp_flags_from_result_u8(flags, al, table),
         steps: product.steps + 2,
     }
 }

@@ -6,7 +6,7 @@ ghost use Rattle.flags.specs.Parity.{ParityTable};
 ghost use Rattle.bcd.specs.Decimal.{highAdjusts, decimal, daaO, dasO, daaOf, dasOf};
 use crate::adjust;
 use crate::adjust::Adjusted;
-use flags::width::Byte;
+use flags::width::Width8;
 use flags::word::Flags;
 
 // The chip checks against 9F where A was set, which the usual pseudocode does not say.
@@ -34,7 +34,7 @@ fn adjusted(ah: u8, al: u8, flags: Flags, table: &[u8; 256]) -> Adjusted
 {
     Adjusted {
         ax: ah as u16 * 0x100 + al as u16,
-        flags: Byte::set_szp_flags_from_result_u8(flags, al, table),
+        flags: Width8::set_szp_flags_from_result_u8(flags, al, table),
         steps: 0,
     }
 }
@@ -43,9 +43,9 @@ fn daa_overflow(al: u8, carry: bool) -> bool
     ensures { λ r. ⌜ r ≡ daaO al carry ⌝ }
 {
     if carry {
-        adjust::within(0x1A, 0x7F, al)
+        adjust::between(0x1A, 0x7F, al)
     } else {
-        adjust::within(0x7A, 0x7F, al)
+        adjust::between(0x7A, 0x7F, al)
     }
 }
 
@@ -54,14 +54,14 @@ fn das_overflow(al: u8, aux_carry: bool, carry: bool) -> bool
 {
     if carry {
         if aux_carry {
-            adjust::within(0x80, 0xE5, al)
+            adjust::between(0x80, 0xE5, al)
         } else {
-            adjust::within(0x80, 0xDF, al)
+            adjust::between(0x80, 0xDF, al)
         }
     } else if aux_carry {
-        adjust::within(0x80, 0x85, al) | adjust::within(0xA0, 0xE5, al)
+        adjust::between(0x80, 0x85, al) | adjust::between(0xA0, 0xE5, al)
     } else {
-        adjust::within(0x9A, 0xDF, al)
+        adjust::between(0x9A, 0xDF, al)
     }
 }
 

@@ -328,11 +328,11 @@ module _ (n b a c steps : ℕ) (ha : a < b) (hb : b < 2 ^ n) (hc : c < 2 ^ n) (h
             w .steps ∙ ap (λ (x : ℕ). steps + 3 + 8 * n + noBorrows n b n x) all,
           )
 
-  pub accepts : (k : ℕ) (s r : Round) → Walked n b d (steps + 3) k s → r ≡ cordRound n b s → k + 1 ≡ n → {carry : Bool} {t : ℕ}
+  pub cord-accepts : (k : ℕ) (s r : Round) → Walked n b d (steps + 3) k s → r ≡ cordRound n b s → k + 1 ≡ n → {carry : Bool} {t : ℕ}
       → carry ≡ ltb (r .tmpc) (top n) → t ≡ r .steps + 4 + 2 * (r .tmpc % 2)
       → accepted (r .tmpc) (r .tmpa) carry (r .compared) t ≡ cord n b d steps
   unfolding cord
-  accepts k s r w e last {carry} {t} ec et =
+  cord-accepts k s r w e last {carry} {t} ec et =
       let done : Walked n b d (steps + 3) n (jumped r) = subst (λ (m : ℕ). Walked n b d (steps + 3) m (jumped r)) (sym (add-one k) ∙ last)
       (next n b d (steps + 3) k s r hb (omega arith) (omega arith) w e) in
       let f = end (jumped r) done in

@@ -1,7 +1,7 @@
 -- What the step log tells of a signed divide.
 --
 -- The steps of an accepted signed divide tell of the quotient's magnitude, and of the signs of dividend and divisor: nothing else. So
--- whoever reads the public log learns of the shelf and the two signs, and of the keeper, the remainder, nothing beyond its sign.
+-- whoever reads the public log learns of the shelfMagnitude and the two signs, and of the keeper, the remainder, nothing beyond its sign.
 -- Assumes nothing.
 use mathlib.Core.Path.{_≡_, ap, ap₂}
 use mathlib.Core.Bool.{Bool, true, cond}
@@ -11,27 +11,27 @@ use native.Mathlib.Omega.{arith}
 use Rattle.flags.specs.Numbers.{topSet}
 use Rattle.flags.specs.declared.word.Flags.{Flags}
 use Rattle.divide.specs.Divide.{accepts, preSteps, divide, stepsOf}
-use Rattle.divide.specs.StepLog.{shelf, told}
-use Rattle.divide.proofs.Told.{steps-told}
+use Rattle.divide.specs.StepLog.{shelfMagnitude, logged}
+use Rattle.divide.proofs.Logged.{steps-logged}
 
 -- two accepted signed divides of one width, REP and flags either way on each, with dividends of equal sign and divisors of equal sign
 module _ (n : ℕ) (hn : 0 < n) (d b d′ b′ : ℕ) (rep rep′ : Bool) (f f′ : Flags)
     (hd : d < 2 ^ (n + n)) (hb : b < 2 ^ n) (hd′ : d′ < 2 ^ (n + n)) (hb′ : b′ < 2 ^ n)
     (yes-1 : accepts n true d b ≡ true) (yes-2 : accepts n true d′ b′ ≡ true)
     (dividends : topSet (n + n) d ≡ topSet (n + n) d′) (divisors : topSet n b ≡ topSet n b′) where
-  -- their steps are equal exactly when what is told of their shelves is
-  pub demand-3 : (stepsOf (divide n true rep d b f) ≡ stepsOf (divide n true rep′ d′ b′ f′)) ↔ (told (shelf n d b) ≡ told (shelf n d′ b′))
+  -- their steps are equal exactly when what is logged of their shelves is
+  pub demand-3 : (stepsOf (divide n true rep d b f) ≡ stepsOf (divide n true rep′ d′ b′ f′)) ↔ (logged (shelfMagnitude n d b) ≡ logged (shelfMagnitude n d′ b′))
   demand-3 = (λ e. omega (arith, e, one-side, other-side, same-signs), λ e. omega (arith, e, one-side, other-side, same-signs))
     where
-      one-side : stepsOf (divide n true rep d b f) ≡ 25 + preSteps n d b + 8 * n + told (shelf n d b)
-      one-side = steps-told n d b rep f hn hd hb yes-1
+      one-side : stepsOf (divide n true rep d b f) ≡ 25 + preSteps n d b + 8 * n + logged (shelfMagnitude n d b)
+      one-side = steps-logged n d b rep f hn hd hb yes-1
 
-      other-side : stepsOf (divide n true rep′ d′ b′ f′) ≡ 25 + preSteps n d′ b′ + 8 * n + told (shelf n d′ b′)
-      other-side = steps-told n d′ b′ rep′ f′ hn hd′ hb′ yes-2
+      other-side : stepsOf (divide n true rep′ d′ b′ f′) ≡ 25 + preSteps n d′ b′ + 8 * n + logged (shelfMagnitude n d′ b′)
+      other-side = steps-logged n d′ b′ rep′ f′ hn hd′ hb′ yes-2
 
       same-signs : preSteps n d b ≡ preSteps n d′ b′
       same-signs = ap₂ (λ (s t : Bool). cond s 7 3 + cond t 5 6) dividends divisors
 
-  -- what it was bought for: one shelf and the same signs take the same steps, whoever the keepers are
-  pub keepers-stay-hidden : shelf n d b ≡ shelf n d′ b′ → stepsOf (divide n true rep d b f) ≡ stepsOf (divide n true rep′ d′ b′ f′)
-  keepers-stay-hidden e = demand-3 .1 (ap told e)
+  -- what it was bought for: one shelfMagnitude and the same signs take the same steps, whoever the keepers are
+  pub keepers-stay-hidden : shelfMagnitude n d b ≡ shelfMagnitude n d′ b′ → stepsOf (divide n true rep d b f) ≡ stepsOf (divide n true rep′ d′ b′ f′)
+  keepers-stay-hidden e = demand-3 .1 (ap logged e)

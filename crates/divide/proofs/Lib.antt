@@ -5,6 +5,6 @@ pub mod IdivLaws
 pub mod FlagLaws
 pub mod DivLaws
 pub mod AfterPre
-pub mod Told
+pub mod Logged
 pub mod Manual
 pub mod Demand3

@@ -7,7 +7,7 @@ use lib.Dec.{ltb}
 use Rattle.flags.specs.Numbers.{top}
 use Rattle.divide.specs.Round.{Round, cordRound}
 use Rattle.divide.specs.Cord.{accepted, cord}
-use Rattle.divide.proofs.CordLaws.{Walked, jumped, begin, next, ready, accepts}
+use Rattle.divide.proofs.CordLaws.{Walked, jumped, begin, next, ready, cord-accepts}
 
 -- so many rounds are made and so many left, of operands that passed the first compare
 pub record Turning (n a b c steps : ℕ) (at : Round) (left : ℕ) : Type 0 where
@@ -47,4 +47,4 @@ module _ {n a b c steps : ℕ} {at : Round} {left : ℕ} (t : Turning n a b c st
     -- the last round has no jump back
     pub ends : left ≡ 1 → {carry : Bool} {all : ℕ} → carry ≡ ltb (r .tmpc) (top n) → all ≡ r .steps + 4 + 2 * (r .tmpc % 2)
         → accepted (r .tmpc) (r .tmpa) carry (r .compared) all ≡ cord n b (a * 2 ^ n + c) steps
-    ends one = accepts n b a c steps (t .passed) (t .divisor) (t .lower) (omega (arith, t .count)) (t .rounds) at r (t .walked) e (omega (arith, t .count))
+    ends one = cord-accepts n b a c steps (t .passed) (t .divisor) (t .lower) (omega (arith, t .count)) (t .rounds) at r (t .walked) e (omega (arith, t .count))

@@ -79,14 +79,14 @@ abbrev pub refusedFlags : Refusal → Flags → Flags
 refusedFlags refusal f = f
 
 -- REP negates a signed quotient
-abbrev pub returned : Bool → Bool → ℤ → ℤ
-returned s rep q = cond (s && rep) (negℤ q) q
+abbrev pub quotientReturned : Bool → Bool → ℤ → ℤ
+quotientReturned s rep q = cond (s && rep) (negℤ q) q
 
 -- the divide chart: quotient, remainder, flags and steps if accepted; else the refusal, its flags and its steps
 unfoldable pub divide : ℕ → Bool → Bool → ℕ → ℕ → Flags → Divided
 divide n s rep d b f =
     cond (accepts n s d b)
-    (accepted (wrapped n (returned s rep (quotientOf n s d b))) (wrapped n (remainderOf n s d b)) (acceptedFlags n s d b f) (acceptedSteps n s d b))
+    (accepted (wrapped n (quotientReturned s rep (quotientOf n s d b))) (wrapped n (remainderOf n s d b)) (acceptedFlags n s d b f) (acceptedSteps n s d b))
     (refused (refusalOf n s d b) (refusedFlags (refusalOf n s d b) f) (refusedSteps n s (refusalOf n s d b) d b))
 
 -- what POSTIDIV's answer makes of a signed divide whose last compare left the flags g

@@ -6,9 +6,9 @@ use lib.IntN.{natAbs}
 use Rattle.divide.specs.Divide.{quotientOf}
 
 -- the quotient's magnitude: the shelf
-abbrev pub shelf : ℕ → ℕ → ℕ → ℕ
-shelf n d b = natAbs (quotientOf n true d b)
+abbrev pub shelfMagnitude : ℕ → ℕ → ℕ → ℕ
+shelfMagnitude n d b = natAbs (quotientOf n true d b)
 
 -- the ones in it, and 2 more where it is odd
-abbrev pub told : ℕ → ℕ
-told q = ones q + 2 * (q % 2)
+abbrev pub logged : ℕ → ℕ
+logged q = ones q + 2 * (q % 2)

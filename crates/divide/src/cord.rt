@@ -8,8 +8,8 @@ ghost use Rattle.divide.specs.Cord.{cord};
 ghost use Rattle.divide.specs.Views.{round8, round16, cord8Answer, cord16Answer};
 use alu::step;
 use alu::subtraction;
-use flags::width::Byte;
-use flags::width::Word;
+use flags::width::Width8;
+use flags::width::Width16;
 
 // Besides the halves and the steps: the left side of the last compare made, which sets the flags.
 pub struct CordRound8 {
@@ -79,7 +79,7 @@ pub fn cord8(tmpa: u8, tmpb: u8, tmpc: u8, steps: u16) -> CordAnswer8
         compared: tmpa,
         steps: steps + 3,
     };
-    let mut internal_counter = Byte::BITS;
+    let mut internal_counter = Width8::BITS;
     let end = loop {
         at = cord_round8(at, tmpb);
         internal_counter -= 1;
@@ -91,7 +91,7 @@ pub fn cord8(tmpa: u8, tmpb: u8, tmpc: u8, steps: u16) -> CordAnswer8
     CordAnswer8::Accepted {
         quotient: end.tmpc,
         remainder: end.tmpa,
-        carry: end.tmpc & Byte::TOP == 0,
+        carry: end.tmpc & Width8::TOP == 0,
         compared: end.compared,
         steps: end.steps + 4 + 2 * (end.tmpc & 1) as u16,
     }
@@ -165,7 +165,7 @@ pub fn cord16(tmpa: u16, tmpb: u16, tmpc: u16, steps: u16) -> CordAnswer16
         compared: tmpa,
         steps: steps + 3,
     };
-    let mut internal_counter = Word::BITS;
+    let mut internal_counter = Width16::BITS;
     let end = loop {
         at = cord_round16(at, tmpb);
         internal_counter -= 1;
@@ -177,7 +177,7 @@ pub fn cord16(tmpa: u16, tmpb: u16, tmpc: u16, steps: u16) -> CordAnswer16
     CordAnswer16::Accepted {
         quotient: end.tmpc,
         remainder: end.tmpa,
-        carry: end.tmpc & Word::TOP == 0,
+        carry: end.tmpc & Width16::TOP == 0,
         compared: end.compared,
         steps: end.steps + 4 + 2 * (end.tmpc & 1),
     }

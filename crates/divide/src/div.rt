@@ -12,8 +12,8 @@ use crate::idiv;
 use crate::idiv::PostIdiv8;
 use crate::idiv::PostIdiv16;
 use alu::subtraction;
-use flags::width::Byte;
-use flags::width::Word;
+use flags::width::Width8;
+use flags::width::Width16;
 use flags::word::Flags;
 use negate::Pair8;
 use negate::Pair16;
@@ -45,7 +45,7 @@ fn compare_flags8(flags: Flags, left: u8, right: u8, carry: bool, table: &[u8; 2
 {
     let compare = subtraction::alu_sub8(left, right);
     let named = flags.with_coa(carry, compare.overflow, compare.aux_carry);
-    Word::set_szp_flags_from_result_u16(named, compare.result as u16, table)
+    Width16::set_szp_flags_from_result_u16(named, compare.result as u16, table)
 }
 
 fn unsigned_div8(dividend: u16, divisor: u8, flags: Flags, table: &[u8; 256]) -> Divided8
@@ -177,7 +177,7 @@ fn compare_flags16(flags: Flags, left: u16, right: u16, carry: bool, table: &[u8
 {
     let compare = subtraction::alu_sub16(left, right);
     let named = flags.with_coa(carry, compare.overflow, compare.aux_carry);
-    Word::set_szp_flags_from_result_u16(named, compare.result, table)
+    Width16::set_szp_flags_from_result_u16(named, compare.result, table)
 }
 
 fn unsigned_div16(dividend: u32, divisor: u16, flags: Flags, table: &[u8; 256]) -> Divided16

@@ -6,8 +6,8 @@ ghost use Rattle.negate.specs.Views.{pair8, pair16, negate8, negate16};
 ghost use Rattle.divide.specs.Idiv.{preIdiv, postIdiv, withSign};
 ghost use Rattle.divide.specs.Views.{post8Answer, post16Answer};
 use alu::subtraction;
-use flags::width::Byte;
-use flags::width::Word;
+use flags::width::Width8;
+use flags::width::Width16;
 use negate::Negate8;
 use negate::Negate16;
 use negate::Pair8;
@@ -28,7 +28,7 @@ pub fn pre_idiv8(dividend: Pair8, tmpb: u8) -> Negate8
     requires { ⌜ dividend .steps < 100 ⌝ }
     ensures { λ r. ⌜ negate8 r ≡ preIdiv 8 (pair8 dividend) tmpb ⌝ }
 {
-    if dividend.tmpa & Byte::TOP != 0 {
+    if dividend.tmpa & Width8::TOP != 0 {
         let from = Pair8 {
             tmpa: dividend.tmpa,
             tmpc: dividend.tmpc,
@@ -76,7 +76,7 @@ pub fn post_idiv8(
     }
     PostIdiv8::Accepted {
         quotient: with_sign8(negate, quotient),
-        remainder: with_sign8(upper & Byte::TOP != 0, remainder),
+        remainder: with_sign8(upper & Width8::TOP != 0, remainder),
         steps: steps + 10,
     }
 }
@@ -96,7 +96,7 @@ pub fn pre_idiv16(dividend: Pair16, tmpb: u16) -> Negate16
     requires { ⌜ dividend .steps < 100 ⌝ }
     ensures { λ r. ⌜ negate16 r ≡ preIdiv 16 (pair16 dividend) tmpb ⌝ }
 {
-    if dividend.tmpa & Word::TOP != 0 {
+    if dividend.tmpa & Width16::TOP != 0 {
         let from = Pair16 {
             tmpa: dividend.tmpa,
             tmpc: dividend.tmpc,
@@ -143,7 +143,7 @@ pub fn post_idiv16(
     }
     PostIdiv16::Accepted {
         quotient: with_sign16(negate, quotient),
-        remainder: with_sign16(upper & Word::TOP != 0, remainder),
+        remainder: with_sign16(upper & Width16::TOP != 0, remainder),
         steps: steps + 10,
     }
 }

@@ -11,6 +11,10 @@ abbrev pub bit : Bool → ℕ
 bit true = 1
 bit false = 0
 
+-- x is one of low to high
+abbrev pub between : ℕ → ℕ → ℕ → Bool
+between low high x = leb low x && leb x high
+
 -- bit k of x is set
 abbrev pub isSet : ℕ → ℕ → Bool
 isSet k x = eqb (x / 2 ^ k % 2) 1

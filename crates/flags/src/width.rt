@@ -6,9 +6,9 @@ ghost use Rattle.flags.specs.Szp.{szp};
 use crate::parity;
 use crate::word::Flags;
 
-pub struct Byte;
+pub struct Width8;
 
-impl Byte {
+impl Width8 {
     pub const BITS: u32 = 8;
 
     pub const TOP: u8 = 0x80;
@@ -24,15 +24,15 @@ impl Byte {
             parity: parity::parity(table, result),
             aux_carry: flags.aux_carry,
             zero: result == 0,
-            sign: result & Byte::TOP != 0,
+            sign: result & Width8::TOP != 0,
             overflow: flags.overflow,
         }
     }
 }
 
-pub struct Word;
+pub struct Width16;
 
-impl Word {
+impl Width16 {
     pub const BITS: u32 = 16;
 
     pub const TOP: u16 = 0x8000;
@@ -49,7 +49,7 @@ impl Word {
             parity: parity::parity(table, (result & 0xFF) as u8),
             aux_carry: flags.aux_carry,
             zero: result == 0,
-            sign: result & Word::TOP != 0,
+            sign: result & Width16::TOP != 0,
             overflow: flags.overflow,
         }
     }

@@ -35,10 +35,10 @@ runOf (suc room) atEnd text out =
     (after (textOf (take (lineLength text) text)) 1 (suc (lineLength text)) (runOf room atEnd (drop (suc (lineLength text)) text) (drop 19 out)))
     (lastRun atEnd text out)
 
--- where the line after the next one starts, in a text of this length whose next line runs from `from` to `end`: past its line feed, or at the text's
+-- where the line after the next one starts, in a text of this size whose next line runs from `from` to `end`: past its line feed, or at the text's
 -- end where the tail is a line too; `from` itself where no line is left
 abbrev pub nextOf : ℕ → ℕ → ℕ → Bool → ℕ
-nextOf from end length atEnd = cond (ltb end length) (suc end) (cond atEnd length from)
+nextOf from end size atEnd = cond (ltb end size) (suc end) (cond atEnd size from)
 
 -- how many lines a text has: one for each line feed, and with the mark one more where the last byte is no line feed
 abbrev pub linesIn : Bool → List ℕ → ℕ

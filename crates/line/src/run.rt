@@ -15,14 +15,14 @@ pub struct Ran {
 
 // Where the line after the next one starts: past the line feed at `end`, or at the end of a tail that is a
 // line too. `from` itself where no line is left.
-fn next_start(from: usize, end: usize, length: usize, at_end: bool) -> usize
-    ensures { λ r. ⌜ r ≡ nextOf from end length «at_end» ⌝ }
+fn next_start(from: usize, end: usize, size: usize, at_end: bool) -> usize
+    ensures { λ r. ⌜ r ≡ nextOf from end size «at_end» ⌝ }
 {
-    if end < length {
+    if end < size {
         return end + 1;
     }
     if at_end {
-        return length;
+        return size;
     }
     from
 }

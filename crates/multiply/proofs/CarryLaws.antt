@@ -16,7 +16,7 @@ use Rattle.flags.proofs.SignLaws.{signOf, plain, signed-by, neg-sign, mul-sign,
 use Rattle.alu.specs.Sum.{adc}
 use Rattle.multiply.specs.Routines.{signSum}
 use Rattle.multiply.specs.Manual.{extension, extends}
-use Rattle.multiply.specs.Multiply.{returned, productOf, halvesSum, carries, negates}
+use Rattle.multiply.specs.Multiply.{productValue, productOf, halvesSum, carries, negates}
 
 -- ---- IMULCOF's sum
 
@@ -122,9 +122,9 @@ module _ (n : ℕ) (rep : Bool) (x y : ℕ) (hn : 0 < n) (hx : x < 2 ^ n) (hy : 
   size-lt =
       lt-of-le-of-lt (mul-le-mul (plain-lt n x hn hx .0) (plain-lt n y hn hy .0)) (mul-lt-mul-of-pos-left (omega (arith, top-twice n hn, pow-pos (n - 1))) (pow-pos (n - 1)))
 
-  returned-is : returned n true rep x y ≡ signOf (negates n rep x y) size
+  productValue-is : productValue n true rep x y ≡ signOf (negates n rep x y) size
   unfolding xor
-  returned-is =
+  productValue-is =
       ap (λ (z : ℤ). cond rep (negℤ z) z) (ap₂ (λ (v w : ℤ). v *ℤ w) (signed-by n x hx) (signed-by n y hy) ∙ mul-sign (topSet n x) (topSet n y) (plain n x) (plain n y))
       ∙ by rep (topSet n x) (topSet n y)
     where
@@ -141,18 +141,18 @@ module _ (n : ℕ) (rep : Bool) (x y : ℕ) (hn : 0 < n) (hx : x < 2 ^ n) (hy : 
 
   -- its 2n bits
   pub signed-bits : productOf n true rep x y ≡ cond (negates n rep x y) (negated (n + n) size) size
-  signed-bits = ap (wrapped (n + n)) returned-is ∙ wrapped-sign (n + n) (negates n rep x y) size (omega (arith, size-lt, pow-add 2 n n, half))
+  signed-bits = ap (wrapped (n + n)) productValue-is ∙ wrapped-sign (n + n) (negates n rep x y) size (omega (arith, size-lt, pow-add 2 n n, half))
     where
       half : top n * 2 ^ n ≤ 2 ^ n * 2 ^ n
       half = mul-le-mul-right (2 ^ n) (omega (arith, top-twice n hn))
 
   -- the manual's rule is the chart's
   pub manual-rule : not (extends n (productOf n true rep x y)) ≡ carries n true rep x y
-  manual-rule = ap not (ap (extends n) signed-bits ∙ fits-tells n (negates n rep x y) size hn size-lt ∙ ap (fitsSigned n) (sym returned-is))
+  manual-rule = ap not (ap (extends n) signed-bits ∙ fits-tells n (negates n rep x y) size hn size-lt ∙ ap (fitsSigned n) (sym productValue-is))
 
   -- and so is the test that IMULCOF makes
   pub imulcof-rule : n ≤ 16 → not (eqb (halvesSum n (productOf n true rep x y) .result) 0) ≡ carries n true rep x y
   imulcof-rule h16 = ap not (sum-tells n (productOf n true rep x y / 2 ^ n) (productOf n true rep x y % 2 ^ n) hn h16 upper) ∙ manual-rule
     where
       upper : productOf n true rep x y / 2 ^ n < 2 ^ n
-      upper = shr-lt n n (wrapped-lt (n + n) (returned n true rep x y))
+      upper = shr-lt n n (wrapped-lt (n + n) (productValue n true rep x y))

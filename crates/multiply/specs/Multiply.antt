@@ -13,12 +13,12 @@ use Rattle.alu.specs.Result.{ResultCoa}
 use Rattle.multiply.specs.Routines.{Multiplied, signSum}
 
 -- the product of the numbers that the factors stand for, negated under REP
-abbrev pub returned : ℕ → Bool → Bool → ℕ → ℕ → ℤ
-returned n s rep x y = cond rep (negℤ (valued s n x *ℤ valued s n y)) (valued s n x *ℤ valued s n y)
+abbrev pub productValue : ℕ → Bool → Bool → ℕ → ℕ → ℤ
+productValue n s rep x y = cond rep (negℤ (valued s n x *ℤ valued s n y)) (valued s n x *ℤ valued s n y)
 
 -- its 2n bits
 abbrev pub productOf : ℕ → Bool → Bool → ℕ → ℕ → ℕ
-productOf n s rep x y = wrapped (n + n) (returned n s rep x y)
+productOf n s rep x y = wrapped (n + n) (productValue n s rep x y)
 
 -- that sum of the halves of 2n bits
 abbrev pub halvesSum : ℕ → ℕ → ResultCoa
@@ -27,7 +27,7 @@ halvesSum n bits = signSum n (bits / 2 ^ n) (bits % 2 ^ n)
 -- C and O: unsigned, the upper half is not 0; signed, the product does not fit n signed bits
 abbrev pub carries : ℕ → Bool → Bool → ℕ → ℕ → Bool
 carries n false rep x y = not (eqb (productOf n false rep x y / 2 ^ n) 0)
-carries n true rep x y = not (fitsSigned n (returned n true rep x y))
+carries n true rep x y = not (fitsSigned n (productValue n true rep x y))
 
 -- unsigned, the other four stay; signed, A, S, Z and P come from that sum of the product's halves
 abbrev pub mulFlags : ℕ → Bool → Bool → ℕ → ℕ → Flags → Flags

@@ -48,15 +48,27 @@ mulcof n h f =
       steps = h .steps + cond (not (eqb (h .tmpa) 0)) 9 10;
     }
 
--- the upper half, widened to a signed word of 16 bits, and the lower half's top bit added to it
-abbrev pub signSum : ℕ → ℕ → ℕ → ResultCoa
-signSum n upper lower = adc 16 (wrapped 16 (signed n upper)) 0 (topSet n lower)
+-- n bits as a signed word of 16 bits
+abbrev pub widened : ℕ → ℕ → ℕ
+widened n half = wrapped 16 (signed n half)
 
--- A, S, Z and P of a signed product come from that sum, and C and O say that it is not 0; 9 steps, or 10 where it is
+-- the upper half, widened, and the lower half's top bit added to it
+abbrev pub signSum : ℕ → ℕ → ℕ → ResultCoa
+signSum n upper lower = adc 16 (widened n upper) 0 (topSet n lower)
+
+-- a sum is not 0
+abbrev pub notZero : ResultCoa → Bool
+notZero sum = not (eqb (sum .result) 0)
+
+-- A, S, Z and P come from a sum, and C and O say that it is not 0
+abbrev pub sumFlags : ResultCoa → Flags → Flags
+sumFlags sum f = szp 16 (sum .result) (setCOA (notZero sum) (notZero sum) (sum .auxCarry) f)
+
+-- the flags of a signed product come from that sum of its halves; 9 steps, or 10 where the sum is 0
 unfoldable pub imulcof : ℕ → Halves → Flags → Multiplied
 imulcof n h f =
     record {
       product = h .tmpa * 2 ^ n + h .tmpc;
-      flags = szp 16 (signSum n (h .tmpa) (h .tmpc) .result) (setCOA (not (eqb (signSum n (h .tmpa) (h .tmpc) .result) 0)) (not (eqb (signSum n (h .tmpa) (h .tmpc) .result) 0)) (signSum n (h .tmpa) (h .tmpc) .auxCarry) f);
-      steps = h .steps + cond (not (eqb (signSum n (h .tmpa) (h .tmpc) .result) 0)) 9 10;
+      flags = sumFlags (signSum n (h .tmpa) (h .tmpc)) f;
+      steps = h .steps + cond (notZero (signSum n (h .tmpa) (h .tmpc))) 9 10;
     }

@@ -6,8 +6,8 @@ ghost use Rattle.multiply.specs.Corx.{corx, corxRound};
 ghost use Rattle.multiply.specs.Views.{halves8, halves16, round8, round16};
 use alu::addition;
 use alu::step;
-use flags::width::Byte;
-use flags::width::Word;
+use flags::width::Width8;
+use flags::width::Width16;
 
 pub struct Halves8 {
     pub tmpa: u8,
@@ -52,7 +52,7 @@ pub fn corx8(tmpb: u8, tmpc: u8, carry: bool, steps: u16) -> Halves8
         carry: first.carry,
         steps: steps + 2,
     };
-    let mut internal_counter = Byte::BITS - 1;
+    let mut internal_counter = Width8::BITS - 1;
     loop {
         at = corx_round8(at, tmpb);
         if internal_counter == 0 {
@@ -110,7 +110,7 @@ pub fn corx16(tmpb: u16, tmpc: u16, carry: bool, steps: u16) -> Halves16
         carry: first.carry,
         steps: steps + 2,
     };
-    let mut internal_counter = Word::BITS - 1;
+    let mut internal_counter = Width16::BITS - 1;
     loop {
         at = corx_round16(at, tmpb);
         if internal_counter == 0 {

@@ -3,10 +3,9 @@
 ghost use mathlib.Core.Path.{_≡_};
 ghost use mathlib.Core.Bool.{cond};
 ghost use Prim.Native.Nat.{_<_};
-ghost use Rattle.flags.specs.Numbers.{signed, wrapped};
 ghost use Rattle.flags.specs.Parity.{ParityTable};
 ghost use Rattle.negate.specs.Views.{negate8, negate16};
-ghost use Rattle.multiply.specs.Routines.{preimul, multiplied, mulcof, imulcof};
+ghost use Rattle.multiply.specs.Routines.{preimul, multiplied, mulcof, widened, imulcof};
 ghost use Rattle.multiply.specs.Multiply.{multiply};
 ghost use Rattle.multiply.specs.Views.{halves8, halves16, product8, product16};
 use crate::corx;
@@ -14,8 +13,8 @@ use crate::corx::Halves8;
 use crate::corx::Halves16;
 use alu::addition;
 use alu::subtraction;
-use flags::width::Byte;
-use flags::width::Word;
+use flags::width::Width8;
+use flags::width::Width16;
 use flags::word::Flags;
 use negate::Negate8;
 use negate::Negate16;
@@ -32,7 +31,7 @@ pub struct Product8 {
 fn preimul8(al: u8, operand: u8, negate: bool) -> Negate8
     ensures { λ r. ⌜ negate8 r ≡ preimul 8 al operand negate ⌝ }
 {
-    if al & Byte::TOP != 0 {
+    if al & Width8::TOP != 0 {
         let positive = subtraction::alu_neg8(al);
         let from = Pair8 {
             tmpa: 0,
@@ -101,9 +100,9 @@ fn mulcof8(halves: Halves8, flags: Flags) -> Product8
 }
 
 fn sign_extended(half: u8) -> u16
-    ensures { λ r. ⌜ r ≡ wrapped 16 (signed 8 half) ⌝ }
+    ensures { λ r. ⌜ r ≡ widened 8 half ⌝ }
 {
-    if half & Byte::TOP != 0 {
+    if half & Width8::TOP != 0 {
         half as u16 + 0xFF00
     } else {
         half as u16
@@ -116,12 +115,12 @@ fn imulcof8(halves: Halves8, flags: Flags, table: &[u8; 256]) -> Product8
     ensures { λ r. ⌜ product8 r ≡ imulcof 8 (halves8 halves) flags ⌝ }
 {
     let upper = sign_extended(halves.tmpa);
-    let sum = addition::alu_adc16(upper, 0, halves.tmpc & Byte::TOP != 0);
+    let sum = addition::alu_adc16(upper, 0, halves.tmpc & Width8::TOP != 0);
     let carry = sum.result != 0;
     let named = flags.with_coa(carry, carry, sum.aux_carry);
     Product8 {
         product: halves.tmpa as u16 * 0x100 + halves.tmpc as u16,
-        flags: Word::set_szp_flags_from_result_u16(named, sum.result, table),
+        flags: Width16::set_szp_flags_from_result_u16(named, sum.result, table),
         steps: halves.steps + cof_tail(carry),
     }
 }
@@ -145,7 +144,7 @@ pub fn mul8(
             tmpa: 0,
             tmpb: operand,
             tmpc: al,
-            carry: al & Byte::TOP != 0,
+            carry: al & Width8::TOP != 0,
             neg_flag: negate,
             steps: 2,
         };
@@ -164,7 +163,7 @@ pub struct Product16 {
 fn preimul16(ax: u16, operand: u16, negate: bool) -> Negate16
     ensures { λ r. ⌜ negate16 r ≡ preimul 16 ax operand negate ⌝ }
 {
-    if ax & Word::TOP != 0 {
+    if ax & Width16::TOP != 0 {
         let positive = subtraction::alu_neg16(ax);
         let from = Pair16 {
             tmpa: 0,
@@ -230,13 +229,13 @@ fn imulcof16(halves: Halves16, flags: Flags, table: &[u8; 256]) -> Product16
     requires { ⌜ (halves .steps < 2000) × ParityTable (now table) ⌝ }
     ensures { λ r. ⌜ product16 r ≡ imulcof 16 (halves16 halves) flags ⌝ }
 {
-    let sum = addition::alu_adc16(halves.tmpa, 0, halves.tmpc & Word::TOP != 0);
+    let sum = addition::alu_adc16(halves.tmpa, 0, halves.tmpc & Width16::TOP != 0);
     let carry = sum.result != 0;
     let named = flags.with_coa(carry, carry, sum.aux_carry);
     Product16 {
         upper: halves.tmpa,
         lower: halves.tmpc,
-        flags: Word::set_szp_flags_from_result_u16(named, sum.result, table),
+        flags: Width16::set_szp_flags_from_result_u16(named, sum.result, table),
         steps: halves.steps + cof_tail(carry),
     }
 }
@@ -260,7 +259,7 @@ pub fn mul16(
             tmpa: 0,
             tmpb: operand,
             tmpc: ax,
-            carry: ax & Word::TOP != 0,
+            carry: ax & Width16::TOP != 0,
             neg_flag: negate,
             steps: 2,
         };

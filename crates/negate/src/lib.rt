@@ -6,8 +6,8 @@ ghost use Prim.Native.Nat.{_<_};
 ghost use Rattle.negate.specs.Negate.{pair, second, corNegate};
 ghost use Rattle.negate.specs.Views.{pair8, pair16, negate8, negate16};
 use alu::subtraction;
-use flags::width::Byte;
-use flags::width::Word;
+use flags::width::Width8;
+use flags::width::Width16;
 
 pub struct Pair8 {
     pub tmpa: u8,
@@ -44,7 +44,7 @@ fn make_positive8(from: Pair8, tmpb: u8) -> Negate8
     requires { ⌜ from .steps < 2000 ⌝ }
     ensures { λ r. ⌜ negate8 r ≡ second 8 tmpb (pair8 from) ⌝ }
 {
-    if tmpb & Byte::TOP != 0 {
+    if tmpb & Width8::TOP != 0 {
         let positive = subtraction::alu_neg8(tmpb);
         Negate8 {
             tmpa: from.tmpa,
@@ -112,7 +112,7 @@ fn make_positive16(from: Pair16, tmpb: u16) -> Negate16
     requires { ⌜ from .steps < 2000 ⌝ }
     ensures { λ r. ⌜ negate16 r ≡ second 16 tmpb (pair16 from) ⌝ }
 {
-    if tmpb & Word::TOP != 0 {
+    if tmpb & Width16::TOP != 0 {
         let positive = subtraction::alu_neg16(tmpb);
         Negate16 {
             tmpa: from.tmpa,

@@ -12,7 +12,7 @@ use Rattle.flags.specs.declared.word.Flags.{Flags}
 use Rattle.flags.proofs.Masks.{mask-bit}
 use Rattle.request.specs.Operation.{lookup, listed, widthOf, checked, operationOf}
 use Rattle.request.specs.Limits.{xMost, yMost}
-use Rattle.request.specs.Judge.{within, requestOf, judgedBy, judged}
+use Rattle.request.specs.Judge.{inLimits, requestOf, judgedBy, judged}
 use Rattle.request.specs.declared.operation.Width.the-variants.{Byte, Word}
 use Rattle.request.specs.declared.operation.Operation.{Operation}
 use Rattle.request.specs.declared.operation.Listed.{Listed}
@@ -68,13 +68,13 @@ pub judged-as : (op mode flags x y : ℕ) {l k : Named} → l ≡ operationOf op
 unfolding judged
 judged-as op mode flags x y e told h = h ∙ ap (λ (n : Named). judgedBy n flags x y) (sym told ∙ e)
 
-module _ (operation : Operation) (flags x y : ℕ) {ok : Bool} (e : ok ≡ within operation flags x y) where
+module _ (operation : Operation) (flags x y : ℕ) {ok : Bool} (e : ok ≡ inLimits operation flags x y) where
   pub admitted : ok ≡ true → {f : Flags} → f ≡ flagsOf flags
       → Admitted (record { operation = operation; flags = f; x = x; y = y })
-      ≡ cond (within operation flags x y) (Admitted (requestOf operation flags x y)) TooLarge
+      ≡ cond (inLimits operation flags x y) (Admitted (requestOf operation flags x y)) TooLarge
   admitted t {f} ef = rw (← e, t) (λ i. Admitted (record { operation = operation; flags = ef i; x = x; y = y }))
 
-  pub too-large : ok ≡ false → TooLarge ≡ cond (within operation flags x y) (Admitted (requestOf operation flags x y)) TooLarge
+  pub too-large : ok ≡ false → TooLarge ≡ cond (inLimits operation flags x y) (Admitted (requestOf operation flags x y)) TooLarge
   too-large t = rw (← e, t)
 
 -- ---- what an admitted request is held to

@@ -14,8 +14,8 @@ use Rattle.request.specs.declared.judge.Judged.{Judged}
 use Rattle.request.specs.declared.judge.Judged.the-variants.{Admitted, Unlisted, WrongMode, TooLarge}
 
 -- X and Y within their limits, and no flag outside 08D5
-abbrev pub within : Operation → ℕ → ℕ → ℕ → Bool
-within operation flags x y = leb x (xMost operation) && leb y (yMost operation) && isFlags flags
+abbrev pub inLimits : Operation → ℕ → ℕ → ℕ → Bool
+inLimits operation flags x y = leb x (xMost operation) && leb y (yMost operation) && isFlags flags
 
 -- a request in memory
 abbrev pub requestOf : Operation → ℕ → ℕ → ℕ → Request
@@ -23,7 +23,7 @@ requestOf operation flags x y = record { operation = operation; flags = flagsOf 
 
 -- status 5 where something is too large
 abbrev pub judgedBy : Named → ℕ → ℕ → ℕ → Judged
-judgedBy (Names operation) flags x y = cond (within operation flags x y) (Admitted (requestOf operation flags x y)) TooLarge
+judgedBy (Names operation) flags x y = cond (inLimits operation flags x y) (Admitted (requestOf operation flags x y)) TooLarge
 judgedBy NotListed flags x y = Unlisted
 judgedBy BadMode flags x y = WrongMode
 

@@ -1,6 +1,6 @@
 // The judging of a raw request.
 ghost use mathlib.Core.Path.{_≡_};
-ghost use Rattle.request.specs.Judge.{within, judged};
+ghost use Rattle.request.specs.Judge.{inLimits, judged};
 use crate::limits;
 use crate::operation;
 use crate::operation::Named;
@@ -23,7 +23,7 @@ pub enum Judged {
 }
 
 fn in_range(operation: Operation, flags: u16, x: u32, y: u16) -> bool
-    ensures { λ r. ⌜ r ≡ within operation flags x y ⌝ }
+    ensures { λ r. ⌜ r ≡ inLimits operation flags x y ⌝ }
 {
     (x <= limits::x_most(operation)) & (y <= limits::y_most(operation)) & Flags::is_flags(flags)
 }

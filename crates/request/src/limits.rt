@@ -5,15 +5,15 @@ use crate::operation::Alu;
 use crate::operation::Decimal;
 use crate::operation::Operation;
 use crate::operation::Width;
-use flags::width::Byte;
-use flags::width::Word;
+use flags::width::Width8;
+use flags::width::Width16;
 
 fn largest_of(width: Width) -> u16
     ensures { λ r. ⌜ r ≡ largest width ⌝ }
 {
     match width {
-        Width::Byte => Byte::MAX as u16,
-        Width::Word => Word::MAX,
+        Width::Byte => Width8::MAX as u16,
+        Width::Word => Width16::MAX,
     }
 }
 

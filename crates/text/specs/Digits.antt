@@ -1,13 +1,10 @@
 -- Hexadecimal digits: both letter cases are read; capitals are written. Assumes nothing.
-use mathlib.Core.Bool.{Bool, cond, _&&_}
+use mathlib.Core.Bool.{cond}
 use mathlib.Core.List.{List}
 use Prim.Native.Nat.{ℕ, _+_, _-_}
-use lib.Dec.{leb, ltb}
+use lib.Dec.{ltb}
+use Rattle.flags.specs.Numbers.{between}
 use Rattle.flags.specs.Table.{Holds}
-
--- b is one of low to high
-abbrev pub between : ℕ → ℕ → ℕ → Bool
-between low high b = leb low b && leb b high
 
 -- the number that a byte stands for: 0 to 9, A to F, a to f; 16 where it is no digit
 unfoldable pub digitOf : ℕ → ℕ

@@ -7,11 +7,11 @@ use Rattle.answer.specs.Charted.{ofDivided}
 use Rattle.answer.proofs.answer.of_divided8.Statement.{statement}
 use Rattle.answer.proofs.answer.of_divided8.Tie as tie
 
-accepts : tie.Need-returns
-accepts c = c .whole .ensures ∙ ap (λ (d : Divided8). ofDivided (divided8 d)) (sym (c .before .before .made .given .1))
+accepting : tie.Need-returns
+accepting c = c .whole .ensures ∙ ap (λ (d : Divided8). ofDivided (divided8 d)) (sym (c .before .before .made .given .1))
 
-refuses : tie.Need-returns-2
-refuses c = c .whole2 .ensures ∙ ap (λ (d : Divided8). ofDivided (divided8 d)) (sym (c .before .before .made2 .given .1))
+refusing : tie.Need-returns-2
+refusing c = c .whole2 .ensures ∙ ap (λ (d : Divided8). ofDivided (divided8 d)) (sym (c .before .before .made2 .given .1))
 
 pub of-divided8-spec : {M : Type 1} → statement M
-of-divided8-spec = tie.close (tie.spec (λ c. search needs) (λ c. search needs) (λ c. search needs) (λ c κs. search needs) (λ c. search needs) (λ c κs. search needs) accepts refuses)
+of-divided8-spec = tie.close (tie.spec (λ c. search needs) (λ c. search needs) (λ c. search needs) (λ c κs. search needs) (λ c. search needs) (λ c κs. search needs) accepting refusing)

@@ -13,7 +13,7 @@ returns c =
     let signed = branch .before .before in
     let halved = signed .before .before in
     ascii-moved aaaO aaaS (λ (h : ℕ). (h + 1) % 256) (λ (l : ℕ). (l + 6) % 256) _ (halved .before .ah .ensures)
-    (halved .al .ensures) (signed .before .within .ensures) (signed .within2 .ensures) (branch .before .low-digit-adjusts .ensures) (branch .if1 .taken)
+    (halved .al .ensures) (signed .before .between .ensures) (signed .between2 .ensures) (branch .before .low-digit-adjusts .ensures) (branch .if1 .taken)
     (c .before .before .wrapping-add-u8 .ensures) (c .before .wrapping-add-u82 .ensures) (c .cut .ensures)
 
 returns-2 : tie.Need-returns-2
@@ -23,7 +23,7 @@ returns-2 c =
     let signed = branch .before .before in
     let halved = signed .before .before in
     ascii-kept aaaO aaaS (λ (h : ℕ). (h + 1) % 256) (λ (l : ℕ). (l + 6) % 256) _ (halved .before .ah .ensures)
-    (halved .al .ensures) (signed .before .within .ensures) (signed .within2 .ensures) (branch .before .low-digit-adjusts .ensures) (branch .if1 .left) (c .cut2 .ensures)
+    (halved .al .ensures) (signed .before .between .ensures) (signed .between2 .ensures) (branch .before .low-digit-adjusts .ensures) (branch .if1 .left) (c .cut2 .ensures)
 
 pub aaa-spec : {M : Type 1} → statement M
 aaa-spec =

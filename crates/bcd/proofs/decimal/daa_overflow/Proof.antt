@@ -6,4 +6,4 @@ use Rattle.bcd.proofs.decimal.daa_overflow.Tie as tie
 pub daa-overflow-spec : {M : Type 1} → statement M
 daa-overflow-spec =
     tie.close
-    (tie.spec (λ c κs. search needs) (λ c κs. search needs) (λ c. rw (c .before .if1 .taken) (c .within .ensures)) (λ c. rw (c .before .if1 .left) (c .within2 .ensures)))
+    (tie.spec (λ c κs. search needs) (λ c κs. search needs) (λ c. rw (c .before .if1 .taken) (c .between .ensures)) (λ c. rw (c .before .if1 .left) (c .between2 .ensures)))

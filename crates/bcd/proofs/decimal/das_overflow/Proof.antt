@@ -8,7 +8,7 @@ pub das-overflow-spec : {M : Type 1} → statement M
 das-overflow-spec =
     tie.close
     (tie.spec (λ c κs. search needs) (λ c κs. search needs) (λ c κs. search needs) (λ c κs. search needs) (λ c κs. search needs)
-    (λ c. rw (c .before .before .if1 .taken, c .before .if2 .taken) (c .within .ensures))
-    (λ c. rw (c .before .before .if1 .taken, c .before .if2 .left) (c .within2 .ensures))
-    (λ c. rw (c .before .before .before .if1 .left, c .before .before .if3 .taken) (λ i. c .before .within3 .ensures i || c .within4 .ensures i))
-    (λ c. rw (c .before .before .if1 .left, c .before .if3 .left) (c .within5 .ensures)))
+    (λ c. rw (c .before .before .if1 .taken, c .before .if2 .taken) (c .between .ensures))
+    (λ c. rw (c .before .before .if1 .taken, c .before .if2 .left) (c .between2 .ensures))
+    (λ c. rw (c .before .before .before .if1 .left, c .before .before .if3 .taken) (λ i. c .before .between3 .ensures i || c .between4 .ensures i))
+    (λ c. rw (c .before .before .if1 .left, c .before .if3 .left) (c .between5 .ensures)))

@@ -40,9 +40,9 @@ module _ (n d b : ℕ) (rep : Bool) (f : Flags) (hn : 0 < n) (hd : d < 2 ^ (n + 
       plain-ones n (divisorOf n true b) n (dividendOf n true d) divisor-pos divisor-half
       (below (dividendOf n true d) (2 ^ n) (divisorOf n true b) divisor-pos (omega (arith, in-range, top-twice n hn)))
 
-  pub steps-told : stepsOf (divide n true rep d b f) ≡ 25 + preSteps n d b + 8 * n + (ones (natAbs (quotientOf n true d b)) + 2 * (natAbs (quotientOf n true d b) % 2))
+  pub steps-logged : stepsOf (divide n true rep d b f) ≡ 25 + preSteps n d b + 8 * n + (ones (natAbs (quotientOf n true d b)) + 2 * (natAbs (quotientOf n true d b) % 2))
   unfolding divide
-  steps-told = rw (agreed, quotient-is) (omega (arith, by-no-borrow))
+  steps-logged = rw (agreed, quotient-is) (omega (arith, by-no-borrow))
 
   few-ones : ones (dividendOf n true d / divisorOf n true b) + 1 ≤ n
   few-ones = omega (arith, ones-le (n - 1) (dividendOf n true d / divisorOf n true b) in-range)

@@ -1,4 +1,4 @@
--- `flags::width::Word::set_szp_flags_from_result_u16` meets its contract: S by the top bit's mask, P of the low eight bits by the table.
+-- `flags::width::Width16::set_szp_flags_from_result_u16` meets its contract: S by the top bit's mask, P of the low eight bits by the table.
 -- Assumes nothing.
 use mathlib.Core.Path.{ap, _∙_}
 use native.Mathlib.Omega.{arith}
@@ -6,8 +6,8 @@ use lib.Bits.{and-mask, mask-lt}
 use borrow.Author.Needs.{needs}
 use Rattle.flags.specs.Parity.{evenOnes}
 use Rattle.flags.proofs.SzpLaws.{szp-by, even-low}
-use Rattle.flags.proofs.width.Word.set_szp_flags_from_result_u16.Statement.{statement}
-use Rattle.flags.proofs.width.Word.set_szp_flags_from_result_u16.Tie as tie
+use Rattle.flags.proofs.width.Width16.set_szp_flags_from_result_u16.Statement.{statement}
+use Rattle.flags.proofs.width.Width16.set_szp_flags_from_result_u16.Tie as tie
 
 cast-parity : tie.Need-cast-parity
 cast-parity c = record { fits = mask-lt (c .args .result) 8 }
