@@ -8,7 +8,7 @@ use Rattle.flags.specs.declared.word.Flags.{Flags}
 use Rattle.alu.specs.Result.{ResultC, ResultCo, ResultCoa}
 use Rattle.multiply.specs.Routines.{Multiplied}
 use Rattle.multiply.specs.Multiply.{multiply}
-use Rattle.divide.specs.Divide.{Divided, divide}
+use Rattle.divide.specs.Divide.{DivideOutcome, Divided, divide}
 use Rattle.bcd.specs.declared.adjust.Adjusted.{Adjusted}
 use Rattle.request.specs.Limits.{largest, dividendMost, rightMost, adjustMost}
 use Rattle.request.specs.Judge.{judged}
@@ -24,7 +24,7 @@ use Rattle.request.specs.declared.operation.Operation.the-variants.{Alu as OfAl
 use Rattle.request.specs.declared.judge.Request.{Request}
 use Rattle.request.specs.declared.judge.Judged.{Judged}
 use Rattle.request.proofs.RequestLaws.{InRange}
-use Rattle.answer.specs.Charted.{wholeOf, plainOf, ofC, ofCo, ofCoa, aluOf, ofProduct8, ofProduct16, ofDivided, ofAdjusted, adjustOf, multipliedOf, dividedOf, chartedBy, charted}
+use Rattle.answer.specs.Charted.{wholeOf, plainOf, ofC, ofCo, ofCoa, aluOf, ofProduct8, ofProduct16, ofOutcome, ofDivided, ofAdjusted, adjustOf, multipliedOf, dividedOf, chartedBy, charted}
 use Rattle.answer.specs.Asked.{ofJudged, asked}
 use Rattle.answer.specs.declared.answer.Answer.{Answer}
 
@@ -91,6 +91,10 @@ module _ (mode : Mode) (x y : ℕ) (f : Flags) where
 
   pub quotient-word : mode .width ≡ Word → {d : Divided} → d ≡ Quotient 16 x y → {a : Answer} → a ≡ ofDivided d → a ≡ dividedOf mode x y f
   quotient-word w e p = rw w (p ∙ ap ofDivided e)
+
+-- the outcome that a match told, at either width
+pub by-outcome : {A : Type 0} (view : A → DivideOutcome) (f : Flags) (steps : ℕ) {o k : A} → o ≡ k → ofOutcome (view k) f steps ≡ ofOutcome (view o) f steps
+by-outcome view f steps e = ap (λ o. ofOutcome (view o) f steps) (sym e)
 
 pub by-adjust : (ax byte : ℕ) (f : Flags) {decimal k : Decimal} → decimal ≡ k → {m : Adjusted} → m ≡ adjustOf k ax byte f → {a : Answer} → a ≡ ofAdjusted m
     → a ≡ ofAdjusted (adjustOf decimal ax byte f)

@@ -7,7 +7,7 @@ use Rattle.alu.specs.Sum.{add, adc, sub, sbb, neg}
 use Rattle.alu.specs.Shift.{shl, shr, sar, rol, ror, rcl, rcr, shlAf}
 use Rattle.multiply.specs.Routines.{Multiplied}
 use Rattle.multiply.specs.Multiply.{multiply}
-use Rattle.divide.specs.Divide.{Divided, accepted, refused, divide}
+use Rattle.divide.specs.Divide.{DivideOutcome, Divided, accepted, refused, divide}
 use Rattle.bcd.specs.Ascii.{aaaOf, aasOf, aadOf}
 use Rattle.bcd.specs.Decimal.{daaOf, dasOf}
 use Rattle.bcd.specs.declared.adjust.Adjusted.{Adjusted}
@@ -68,9 +68,13 @@ abbrev pub ofProduct16 : Multiplied → Answer
 ofProduct16 m = wholeOf 0 (m .flags) (m .steps) (m .product / 0x1_0000) (m .product % 0x1_0000)
 
 -- either refusal is status 6
+abbrev pub ofOutcome : DivideOutcome → Flags → ℕ → Answer
+ofOutcome (accepted results) f steps = wholeOf 0 f steps (results .quotient) (results .remainder)
+ofOutcome (refused refusal) f steps = wholeOf 6 f steps 0 0
+
+-- a divide, with its flags and steps whichever it is
 abbrev pub ofDivided : Divided → Answer
-ofDivided (accepted quotient remainder f steps) = wholeOf 0 f steps quotient remainder
-ofDivided (refused refusal f steps) = wholeOf 6 f steps 0 0
+ofDivided d = ofOutcome (d .outcome) (d .flags) (d .steps)
 
 -- R is AX
 abbrev pub ofAdjusted : Adjusted → Answer

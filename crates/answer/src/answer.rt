@@ -6,6 +6,8 @@ ghost use Rattle.answer.specs.Charted.{wholeOf, plainOf, ofProduct8, ofP
 use bcd::adjust::Adjusted;
 use bcd::ascii;
 use bcd::decimal;
+use divide::div::DivideOutcome8;
+use divide::div::DivideOutcome16;
 use divide::div::Divided8;
 use divide::div::Divided16;
 use flags::parity;
@@ -57,28 +59,32 @@ pub fn of_product16(made: Product16) -> Answer
 pub fn of_divided8(made: Divided8) -> Answer
     ensures { λ a. ⌜ a ≡ ofDivided (divided8 made) ⌝ }
 {
-    match made {
-        Divided8::Accepted {
-            quotient,
-            remainder,
-            flags,
-            steps,
-        } => whole(0, flags, steps, quotient as u16, remainder as u16),
-        Divided8::Refused { flags, steps, .. } => whole(6, flags, steps, 0, 0),
+    let outcome = made.outcome;
+    match outcome {
+        DivideOutcome8::Accepted(results) => whole(
+            0,
+            made.flags,
+            made.steps,
+            results.quotient as u16,
+            results.remainder as u16,
+        ),
+        DivideOutcome8::Refused(_) => whole(6, made.flags, made.steps, 0, 0),
     }
 }
 
 pub fn of_divided16(made: Divided16) -> Answer
     ensures { λ a. ⌜ a ≡ ofDivided (divided16 made) ⌝ }
 {
-    match made {
-        Divided16::Accepted {
-            quotient,
-            remainder,
-            flags,
-            steps,
-        } => whole(0, flags, steps, quotient, remainder),
-        Divided16::Refused { flags, steps, .. } => whole(6, flags, steps, 0, 0),
+    let outcome = made.outcome;
+    match outcome {
+        DivideOutcome16::Accepted(results) => whole(
+            0,
+            made.flags,
+            made.steps,
+            results.quotient,
+            results.remainder,
+        ),
+        DivideOutcome16::Refused(_) => whole(6, made.flags, made.steps, 0, 0),
     }
 }
 

@@ -6,7 +6,7 @@ use native.Mathlib.Omega.{arith}
 use Rattle.flags.specs.declared.word.Flags.{Flags}
 use Rattle.negate.specs.Negate.{Negate}
 use Rattle.divide.specs.Cord as Cord
-use Rattle.divide.specs.Cord.{CordAnswer, cord}
+use Rattle.divide.specs.Cord.{Results, CordAnswer, cord}
 use Rattle.divide.specs.Idiv.{PostAnswer, preIdiv, postIdiv}
 use Rattle.divide.specs.Flags.{compareFlags}
 use Rattle.divide.specs.Divide.{refused, dividendOf, divisorOf, preSteps, divide, finished}
@@ -35,16 +35,19 @@ module _ (n : ℕ) (s : AfterPre n) where
   pub goes-on : {a : CordAnswer} → a ≡ cord n (s .pre .tmpb) (s .pre .tmpa * 2 ^ n + s .pre .tmpc) (s .pre .steps + 2) → a ≡ onward
   goes-on = cord-of-pre n (s .dividend) (s .divisor) (s .rep) (s .some) (s .wide) (s .fits) (s .handed)
 
-  pub refuses : (f : Flags) {t : ℕ} → Cord.refused t ≡ onward → refused FirstCompare f t ≡ divide n true (s .rep) (s .dividend) (s .divisor) f
-  refuses = signed-refused n (s .dividend) (s .divisor) (s .rep) (s .some) (s .wide) (s .fits)
+  module _ {a : CordAnswer} (e : a ≡ onward) where
+    pub refuses : (f : Flags) → a .outcome ≡ Cord.refused
+        → record { outcome = refused FirstCompare; flags = f; steps = a .steps } ≡ divide n true (s .rep) (s .dividend) (s .divisor) f
+    refuses f = signed-refused n (s .dividend) (s .divisor) (s .rep) (s .some) (s .wide) (s .fits) f e
 
-  module _ {q r : ℕ} {c : Bool} {l t : ℕ} (e : Cord.accepted q r c l t ≡ onward) where
-    pub few-after : n ≤ 16 → t ≤ 175
-    few-after h = omega (arith, few-steps n _ _ (6 + preSteps n (s .dividend) (s .divisor)) h e, pre-most n (s .dividend) (s .divisor))
+    pub few-after : n ≤ 16 → {r : Results} → a .outcome ≡ Cord.accepted r → a .steps ≤ 175
+    few-after hn h = omega (arith, few-steps n _ _ (6 + preSteps n (s .dividend) (s .divisor)) hn e h, pre-most n (s .dividend) (s .divisor))
 
-    pub finishes : (f : Flags) (p : PostAnswer) → p ≡ postIdiv n r (s .dividend / 2 ^ n) q c (s .pre .negFlag) (t + 3) → {g : Flags} → g ≡ compareFlags n l (s .pre .tmpb) c f
+    pub finishes : (f : Flags) {r : Results} → a .outcome ≡ Cord.accepted r
+        → (p : PostAnswer) → p ≡ postIdiv n r (s .dividend / 2 ^ n) (a .carry) (s .pre .negFlag) (a .steps + 3)
+        → {g : Flags} → g ≡ compareFlags n (a .compared) (s .pre .tmpb) (a .carry) f
         → finished p g f ≡ divide n true (s .rep) (s .dividend) (s .divisor) f
-    finishes f p ep eg =
-        signed-finished n (s .dividend) (s .divisor) (s .rep) (s .some) (s .wide) (s .fits) f e
+    finishes f h p ep eg =
+        signed-finished n (s .dividend) (s .divisor) (s .rep) (s .some) (s .wide) (s .fits) f e h
         (pre-flag n (s .dividend) (s .divisor) (s .rep) (s .some) (s .wide) (s .fits) (s .handed)) p ep
         (pre-divisor n (s .dividend) (s .divisor) (s .rep) (s .some) (s .wide) (s .fits) (s .handed)) eg

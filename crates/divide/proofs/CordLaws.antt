@@ -20,7 +20,7 @@ use Rattle.alu.specs.Result.{ResultCoa}
 use Rattle.alu.specs.Step.{Step, left}
 use Rattle.alu.specs.Sum.{sub, sbb}
 use Rattle.divide.specs.Round.{Round, high, low, byRoad, cordRound}
-use Rattle.divide.specs.Cord.{CordAnswer, accepted, refused, shifted, Road, shiftedOut, noBorrow, borrow as borrows, roadBy, road, one, noBorrows, lastBy, lastCompare, cordSteps, cord}
+use Rattle.divide.specs.Cord.{CordAnswer, accepted, refused, shifted, Road, shiftedOut, noBorrow, borrow as borrows, roadBy, road, tally, byNoBorrow, noBorrows, lastBy, lastCompare, cordSteps, cord}
 
 -- ---- a round of the code
 
@@ -143,7 +143,7 @@ pub record Walked (n b d start k : ℕ) (s : Round) : Type 0 where
   pub steps : s .steps ≡ start + 8 * k + noBorrows n b k p
 
 pub begin : (n b a c start : ℕ) → a < b → c < 2 ^ n → Walked n b (a * 2 ^ n + c) start 0 (made a c a start)
-unfolding lastCompare noBorrows
+unfolding lastCompare tally
 begin n b a c start ha hc =
     let none : a / b ≡ 0 = div-eq-of-lt ha in
     record {
@@ -212,14 +212,16 @@ module _ (n b d start k j t l p : ℕ) (s : Round) (hb : b < 2 ^ n) (pos : 0 < b
   abbrev Next : Bool → Bool → Type 0
   Next x y = Walked n b d start (suc k) (jumped (byRoad x y b (high n s) (low n s) s))
 
-  -- what the two recursions of the chart gain on a road
-  gains : (r : Road) → road n b (p * 2 + t) ≡ r
-      → (lastCompare n b (suc k) (p * 2 + t) ≡ lastBy r (lastCompare n b k p) (high n s)) × (noBorrows n b (suc k) (p * 2 + t) ≡ noBorrows n b k p + one r)
-  unfolding lastCompare noBorrows
-  gains r e = (
-    ap₂ (λ (x y : ℕ). lastBy (road n b (p * 2 + t)) x y) (ap (lastCompare n b k) half) seen ∙ ap (λ (x : Road). lastBy x (lastCompare n b k p) (high n s)) e,
-    ap₂ (λ (x : ℕ) (y : Road). x + one y) (ap (noBorrows n b k) half) e,
-  )
+  -- what the chart's recursions gain on a road: the last compare, and a tally, whatever it counts
+  module _ {r : Road} (e : road n b (p * 2 + t) ≡ r) where
+    compare-gains : lastCompare n b (suc k) (p * 2 + t) ≡ lastBy r (lastCompare n b k p) (high n s)
+    unfolding lastCompare
+    compare-gains =
+        ap₂ (λ (x y : ℕ). lastBy (road n b (p * 2 + t)) x y) (ap (lastCompare n b k) half) seen ∙ ap (λ (x : Road). lastBy x (lastCompare n b k p) (high n s)) e
+
+    tally-gains : (counts : Road → ℕ) → tally counts n b (suc k) (p * 2 + t) ≡ tally counts n b k p + counts r
+    unfolding tally
+    tally-gains counts = ap₂ (λ (x : ℕ) (y : Road). x + counts y) (ap (tally counts n b k) half) e
 
   taken-in : (p * 2 + t) * 2 ^ j + l ≡ d
   taken-in = omega arith
@@ -228,12 +230,11 @@ module _ (n b d start k j t l p : ℕ) (s : Round) (hb : b < 2 ^ n) (pos : 0 < b
       → byRoad x y b (high n s) (low n s) s .tmpa ≡ high n s - b
       → byRoad x y b (high n s) (low n s) s .tmpc ≡ low n s + 1
       → byRoad x y b (high n s) (low n s) s .compared ≡ lastBy (roadBy x y) (s .compared) (high n s)
-      → byRoad x y b (high n s) (low n s) s .steps ≡ s .steps + 7 + one (roadBy x y)
+      → byRoad x y b (high n s) (low n s) s .steps ≡ s .steps + 7 + byNoBorrow (roadBy x y)
       → Next x y
   with-one x y h e ra rc rl rs =
       let q = fits-once b p t (high n s) next-high ht h (mod-lt p pos) in
       let f = next-low in
-      let g = gains (roadBy x y) e in
       record {
         j = j;
         p = p * 2 + t;
@@ -244,8 +245,8 @@ module _ (n b d start k j t l p : ℕ) (s : Round) (hb : b < 2 ^ n) (pos : 0 < b
         upper = ra ∙ sym (q .1);
         lower = rc ∙ omega arith;
         few = rw pow-suc (omega arith);
-        last = rl ∙ ap (λ (z : ℕ). lastBy (roadBy x y) z (high n s)) lc ∙ sym (g .0);
-        steps = omega (arith, g .1);
+        last = rl ∙ ap (λ (z : ℕ). lastBy (roadBy x y) z (high n s)) lc ∙ sym (compare-gains e);
+        steps = omega (arith, tally-gains e byNoBorrow);
       }
 
   pub stepped : (x y : Bool) → leb (2 ^ n) (high n s) ≡ x → leb b (high n s) ≡ y → Next x y
@@ -254,7 +255,7 @@ module _ (n b d start k j t l p : ℕ) (s : Round) (hb : b < 2 ^ n) (pos : 0 < b
   stepped false false ex ey =
       let q = fits-not b p t (high n s) next-high (leb-false b (high n s) ey) in
       let f = next-low in
-      let g = gains borrows (on-road ∙ ap₂ roadBy ex ey) in
+      let e = on-road ∙ ap₂ roadBy ex ey in
       record {
         j = j;
         p = p * 2 + t;
@@ -265,8 +266,8 @@ module _ (n b d start k j t l p : ℕ) (s : Round) (hb : b < 2 ^ n) (pos : 0 < b
         upper = sym (q .1);
         lower = omega arith;
         few = rw pow-suc (omega arith);
-        last = sym (g .0);
-        steps = omega (arith, g .1);
+        last = sym (compare-gains e);
+        steps = omega (arith, tally-gains e byNoBorrow);
       }
 
 pub next : (n b d start k : ℕ) (s r : Round) → b < 2 ^ n → 0 < b → k < n → Walked n b d start k s → r ≡ cordRound n b s → Walked n b d start (suc k) (jumped r)
@@ -289,19 +290,19 @@ next n b d start k s r hb pos hk w e = rw e (go (w .j) (w .count) (w .rest) (w .
 
 -- ---- the answer
 
-pub refuses : (n b a c steps : ℕ) → c < 2 ^ n → b ≤ a → refused (steps + 4) ≡ cord n b (a * 2 ^ n + c) steps
+pub refuses : (n b a c steps : ℕ) → c < 2 ^ n → b ≤ a → record { outcome = refused; carry = false; compared = a; steps = steps + 4 } ≡ cord n b (a * 2 ^ n + c) steps
 unfolding cord
 refuses n b a c steps hc h = rw (digits-div a hc, le-leb b a h)
 
-one-most : (r : Road) → one r ≤ 1
-one-most shiftedOut = omega arith
-one-most noBorrow = omega arith
-one-most borrows = omega arith
+no-borrow-most : (r : Road) → byNoBorrow r ≤ 1
+no-borrow-most shiftedOut = omega arith
+no-borrow-most noBorrow = omega arith
+no-borrow-most borrows = omega arith
 
 pub most-ones : (n b k p : ℕ) → noBorrows n b k p ≤ k
-unfolding noBorrows
+unfolding tally
 most-ones n b zero p = omega arith
-most-ones n b (suc k) p = omega (arith, most-ones n b k (p / 2), one-most (road n b p))
+most-ones n b (suc k) p = omega (arith, most-ones n b k (p / 2), no-borrow-most (road n b p))
 
 -- what a state of the walk offers the next round
 pub ready : (n b d start k : ℕ) (s : Round) → 0 < b → n ≤ 16 → k ≤ n → Walked n b d start k s → (s .tmpa < b) × (s .steps ≤ start + 144)
@@ -330,7 +331,7 @@ module _ (n b a c steps : ℕ) (ha : a < b) (hb : b < 2 ^ n) (hc : c < 2 ^ n) (h
 
   pub cord-accepts : (k : ℕ) (s r : Round) → Walked n b d (steps + 3) k s → r ≡ cordRound n b s → k + 1 ≡ n → {carry : Bool} {t : ℕ}
       → carry ≡ ltb (r .tmpc) (top n) → t ≡ r .steps + 4 + 2 * (r .tmpc % 2)
-      → accepted (r .tmpc) (r .tmpa) carry (r .compared) t ≡ cord n b d steps
+      → record { outcome = accepted (record { quotient = r .tmpc; remainder = r .tmpa }); carry = carry; compared = r .compared; steps = t } ≡ cord n b d steps
   unfolding cord
   cord-accepts k s r w e last {carry} {t} ec et =
       let done : Walked n b d (steps + 3) n (jumped r) = subst (λ (m : ℕ). Walked n b d (steps + 3) m (jumped r)) (sym (add-one k) ∙ last)
@@ -339,4 +340,9 @@ module _ (n b a c steps : ℕ) (ha : a < b) (hb : b < 2 ^ n) (hc : c < 2 ^ n) (h
       let quotient : r .tmpc ≡ d / b = f .0 in
       let whole : t ≡ steps + cordSteps n b d = et ∙ rw quotient (omega (arith, f .3)) in
       rw (digits-div a hc, lt-leb b a ha)
-      (λ i. accepted (quotient i) (f .1 i) ((ec ∙ ap (λ (x : ℕ). ltb x (top n)) quotient) i) (f .2 i) (whole i))
+      (λ i. record {
+        outcome = accepted (record { quotient = quotient i; remainder = f .1 i });
+        carry = (ec ∙ ap (λ (x : ℕ). ltb x (top n)) quotient) i;
+        compared = f .2 i;
+        steps = whole i;
+      })

@@ -10,7 +10,7 @@ use Prim.Native.Nat.{ℕ, _+_, _*_, _%_, _^_, _<_}
 use native.Mathlib.Omega.{arith}
 use Rattle.flags.specs.Numbers.{topSet}
 use Rattle.flags.specs.declared.word.Flags.{Flags}
-use Rattle.divide.specs.Divide.{accepts, preSteps, divide, stepsOf}
+use Rattle.divide.specs.Divide.{accepts, preSteps, divide}
 use Rattle.divide.specs.StepLog.{shelfMagnitude, logged}
 use Rattle.divide.proofs.Logged.{steps-logged}
 
@@ -20,18 +20,18 @@ module _ (n : ℕ) (hn : 0 < n) (d b d′ b′ : ℕ) (rep rep′ : Bool) (f f�
     (yes-1 : accepts n true d b ≡ true) (yes-2 : accepts n true d′ b′ ≡ true)
     (dividends : topSet (n + n) d ≡ topSet (n + n) d′) (divisors : topSet n b ≡ topSet n b′) where
   -- their steps are equal exactly when what is logged of their shelves is
-  pub demand-3 : (stepsOf (divide n true rep d b f) ≡ stepsOf (divide n true rep′ d′ b′ f′)) ↔ (logged (shelfMagnitude n d b) ≡ logged (shelfMagnitude n d′ b′))
+  pub demand-3 : (divide n true rep d b f .steps ≡ divide n true rep′ d′ b′ f′ .steps) ↔ (logged (shelfMagnitude n d b) ≡ logged (shelfMagnitude n d′ b′))
   demand-3 = (λ e. omega (arith, e, one-side, other-side, same-signs), λ e. omega (arith, e, one-side, other-side, same-signs))
     where
-      one-side : stepsOf (divide n true rep d b f) ≡ 25 + preSteps n d b + 8 * n + logged (shelfMagnitude n d b)
+      one-side : divide n true rep d b f .steps ≡ 25 + preSteps n d b + 8 * n + logged (shelfMagnitude n d b)
       one-side = steps-logged n d b rep f hn hd hb yes-1
 
-      other-side : stepsOf (divide n true rep′ d′ b′ f′) ≡ 25 + preSteps n d′ b′ + 8 * n + logged (shelfMagnitude n d′ b′)
+      other-side : divide n true rep′ d′ b′ f′ .steps ≡ 25 + preSteps n d′ b′ + 8 * n + logged (shelfMagnitude n d′ b′)
       other-side = steps-logged n d′ b′ rep′ f′ hn hd′ hb′ yes-2
 
       same-signs : preSteps n d b ≡ preSteps n d′ b′
       same-signs = ap₂ (λ (s t : Bool). cond s 7 3 + cond t 5 6) dividends divisors
 
   -- what it was bought for: one shelfMagnitude and the same signs take the same steps, whoever the keepers are
-  pub keepers-stay-hidden : shelfMagnitude n d b ≡ shelfMagnitude n d′ b′ → stepsOf (divide n true rep d b f) ≡ stepsOf (divide n true rep′ d′ b′ f′)
+  pub keepers-stay-hidden : shelfMagnitude n d b ≡ shelfMagnitude n d′ b′ → divide n true rep d b f .steps ≡ divide n true rep′ d′ b′ f′ .steps
   keepers-stay-hidden e = demand-3 .1 (ap logged e)

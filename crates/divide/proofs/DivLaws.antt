@@ -19,11 +19,12 @@ use Rattle.flags.proofs.SignLaws.{signOf, plain, signed-by, abs-sign, quot-sign
 use Rattle.negate.specs.Negate.{Pair, Negate}
 use Rattle.divide.proofs.CordLaws.{most-ones}
 use Rattle.divide.specs.Cord as Cord
-use Rattle.divide.specs.Cord.{CordAnswer, lastCompare, cordSteps, cord}
+use Rattle.divide.specs.Cord.{Results, CordAnswer, lastCompare, cordSteps, cordRefused, cordAccepted, cord}
 use Rattle.divide.specs.Idiv as Idiv
 use Rattle.divide.specs.Idiv.{preIdiv, withSign, postIdiv}
 use Rattle.divide.specs.Flags.{compareFlags}
-use Rattle.divide.specs.Divide.{Divided, accepted, refused, accepts, quotientOf, remainderOf, dividendOf, divisorOf, preSteps, divide, finished}
+use Rattle.divide.specs.Divide.{Divided, accepted, refused, accepts, quotientOf, remainderOf, dividendOf, divisorOf, atFirst, refusalOf, preSteps, acceptedSteps, refusedSteps, acceptedFlags, refusedFlags, divide, finished}
+use Rattle.divide.specs.declared.div.Refusal.{Refusal}
 use Rattle.divide.specs.declared.div.Refusal.the-variants.{FirstCompare, SignRange}
 
 -- a quotient is below m where the dividend's part above m is below the divisor; m and b exchanged, the other way round
@@ -32,56 +33,90 @@ below d b m hm h = let hb : 0 < b = omega arith in div-lt-iff-lt-mul hb .1 (subs
 
 -- ---- what CORD's answer tells
 
--- what a match binds: quotient, remainder, carry, last compare and steps
-abbrev pub bound : ℕ × (ℕ × (Bool × (ℕ × (ℕ × Unit {0})))) → CordAnswer
-bound g = Cord.accepted (g .0) (g .1 .0) (g .1 .1 .0) (g .1 .1 .1 .0) (g .1 .1 .1 .1 .0)
+-- of a divide that it accepts
+pub record AcceptedBy (n b d before : ℕ) (a : CordAnswer) (r : Results) : Type 0 where
+  pub passed : d / 2 ^ n < b
+  pub quotient : r .quotient ≡ d / b
+  pub remainder : r .remainder ≡ d % b
+  pub carry : a .carry ≡ ltb (d / b) (top n)
+  pub compared : a .compared ≡ lastCompare n b n d
+  pub steps : a .steps ≡ before + cordSteps n b d
 
-module _ (n b d steps : ℕ) where
-  pub when-accepted : {q r : ℕ} {c : Bool} {l t : ℕ} → Cord.accepted q r c l t ≡ cord n b d steps
-      → (d / 2 ^ n < b) × (q ≡ d / b) × (r ≡ d % b) × (c ≡ ltb (d / b) (top n)) × (l ≡ lastCompare n b n d) × (t ≡ steps + cordSteps n b d)
+module _ (n b d before : ℕ) {a : CordAnswer} where
+  pub when-accepted : a ≡ cord n b d before → {r : Results} → a .outcome ≡ Cord.accepted r → AcceptedBy n b d before a r
   unfolding cord
-  when-accepted {q} {r} {c} {l} {t} = by (leb b (d / 2 ^ n)) refl
+  when-accepted e {r} h = by (leb b (d / 2 ^ n)) refl e
     where
-      by : (x : Bool) → leb b (d / 2 ^ n) ≡ x
-          → Cord.accepted q r c l t ≡ cond x (Cord.refused (steps + 4)) (Cord.accepted (d / b) (d % b) (ltb (d / b) (top n)) (lastCompare n b n d) (steps + cordSteps n b d))
-          → (d / 2 ^ n < b) × (q ≡ d / b) × (r ≡ d % b) × (c ≡ ltb (d / b) (top n)) × (l ≡ lastCompare n b n d) × (t ≡ steps + cordSteps n b d)
-      by true x e = let z : _≡_ {A = ℕ} 0 1 = cc in absurd (omega arith)
-      by false x e = (leb-false b (d / 2 ^ n) x, (cc), (cc), (cc), (cc), (cc))
+      by : (x : Bool) → leb b (d / 2 ^ n) ≡ x → a ≡ cond x (cordRefused n d before) (cordAccepted n b d before) → AcceptedBy n b d before a r
+      by true x e =
+          let differ : Cord.refused ≡ Cord.accepted r = sym (ap (λ (w : CordAnswer). w .outcome) e) ∙ h in
+          let z : _≡_ {A = ℕ} 0 1 = cc in
+          absurd (omega arith)
+      by false x e =
+          let both : Cord.accepted (record { quotient = d / b; remainder = d % b }) ≡ Cord.accepted r = sym (ap (λ (w : CordAnswer). w .outcome) e) ∙ h in
+          let results : r ≡ record { quotient = d / b; remainder = d % b } = cc in
+          record {
+            passed = leb-false b (d / 2 ^ n) x;
+            quotient = ap (λ (w : Results). w .quotient) results;
+            remainder = ap (λ (w : Results). w .remainder) results;
+            carry = ap (λ (w : CordAnswer). w .carry) e;
+            compared = ap (λ (w : CordAnswer). w .compared) e;
+            steps = ap (λ (w : CordAnswer). w .steps) e;
+          }
 
-  pub when-refused : {t : ℕ} → Cord.refused t ≡ cord n b d steps → (b ≤ d / 2 ^ n) × (t ≡ steps + 4)
+  pub when-refused : a ≡ cord n b d before → a .outcome ≡ Cord.refused → (b ≤ d / 2 ^ n) × (a .steps ≡ before + 4)
   unfolding cord
-  when-refused {t} = by (leb b (d / 2 ^ n)) refl
+  when-refused e h = by (leb b (d / 2 ^ n)) refl e
     where
-      by : (x : Bool) → leb b (d / 2 ^ n) ≡ x
-          → Cord.refused t ≡ cond x (Cord.refused (steps + 4)) (Cord.accepted (d / b) (d % b) (ltb (d / b) (top n)) (lastCompare n b n d) (steps + cordSteps n b d))
-          → (b ≤ d / 2 ^ n) × (t ≡ steps + 4)
-      by true x e = (leb-true b (d / 2 ^ n) x, (cc))
-      by false x e = let z : _≡_ {A = ℕ} 0 1 = cc in absurd (omega arith)
+      by : (x : Bool) → leb b (d / 2 ^ n) ≡ x → a ≡ cond x (cordRefused n d before) (cordAccepted n b d before) → (b ≤ d / 2 ^ n) × (a .steps ≡ before + 4)
+      by true x e = (leb-true b (d / 2 ^ n) x, ap (λ (w : CordAnswer). w .steps) e)
+      by false x e =
+          let differ : Cord.accepted (record { quotient = d / b; remainder = d % b }) ≡ Cord.refused = sym (ap (λ (w : CordAnswer). w .outcome) e) ∙ h in
+          let z : _≡_ {A = ℕ} 0 1 = cc in
+          absurd (omega arith)
 
--- and its steps are few
-pub few-steps : (n b d steps : ℕ) {q r : ℕ} {c : Bool} {l t : ℕ} → n ≤ 16 → Cord.accepted q r c l t ≡ cord n b d steps → t ≤ steps + 152
-few-steps n b d steps h e = omega (arith, when-accepted n b d steps e .5, most-ones n b n d)
+  -- and its steps are few
+  pub few-steps : n ≤ 16 → a ≡ cord n b d before → {r : Results} → a .outcome ≡ Cord.accepted r → a .steps ≤ before + 152
+  few-steps hn e h = omega (arith, when-accepted e h .steps, most-ones n b n d)
+
+-- ---- refusals
+
+module _ (n : ℕ) (s : Bool) (d b : ℕ) where
+  pub first-refusal : atFirst n s d b ≡ true → FirstCompare ≡ refusalOf n s d b
+  unfolding refusalOf
+  first-refusal e = rw e
+
+  pub later-refusal : atFirst n s d b ≡ false → SignRange ≡ refusalOf n s d b
+  unfolding refusalOf
+  later-refusal e = rw e
+
+  -- the answer, from its parts
+  pub refused-is : (rep : Bool) (f : Flags) → accepts n s d b ≡ false → {why : Refusal} {g : Flags} {t : ℕ}
+      → why ≡ refusalOf n s d b → g ≡ refusedFlags n s d b f → t ≡ refusedSteps n s d b
+      → record { outcome = refused why; flags = g; steps = t } ≡ divide n s rep d b f
+  unfolding divide
+  refused-is rep f e ew eg et = rw e (λ i. record { outcome = refused (ew i); flags = eg i; steps = et i })
 
 -- ---- unsigned
 
-module _ (n d b : ℕ) (rep : Bool) (f : Flags) where
-  pub unsigned-refused : {t : ℕ} → Cord.refused t ≡ cord n b d 5 → refused FirstCompare f t ≡ divide n false rep d b f
-  unfolding divide
-  unsigned-refused e =
-      let w = when-refused n b d 5 e in
-      rw (le-ltb (d / 2 ^ n) b (w .0), le-leb b (d / 2 ^ n) (w .0)) (ap (refused FirstCompare f) (w .1))
+module _ (n d b : ℕ) (rep : Bool) (f : Flags) {a : CordAnswer} (e : a ≡ cord n b d 5) where
+  pub unsigned-refused : a .outcome ≡ Cord.refused → record { outcome = refused FirstCompare; flags = f; steps = a .steps } ≡ divide n false rep d b f
+  unsigned-refused h =
+      let w = when-refused n b d 5 e h in
+      refused-is n false d b rep f (le-ltb (d / 2 ^ n) b (w .0)) (first-refusal n false d b (le-leb b (d / 2 ^ n) (w .0))) refl (w .1)
 
-  pub unsigned-accepted : b < 2 ^ n → {q r : ℕ} {c : Bool} {l t : ℕ} → Cord.accepted q r c l t ≡ cord n b d 5
-      → {g : Flags} → g ≡ compareFlags n l b c f → accepted q r g (t + 2) ≡ divide n false rep d b f
+  pub unsigned-accepted : b < 2 ^ n → {r : Results} → a .outcome ≡ Cord.accepted r → {g : Flags} → g ≡ compareFlags n (a .compared) b (a .carry) f
+      → record { outcome = accepted r; flags = g; steps = a .steps + 2 } ≡ divide n false rep d b f
   unfolding divide wrapped
-  unsigned-accepted hb {q} {r} {c} {l} {t} e {g} eg =
-      let w = when-accepted n b d 5 e in
-      let quotient = w .1 ∙ sym (mod-eq-of-lt (below d b (2 ^ n) (pow-pos n) (w .0))) in
-      let hr : d % b < 2 ^ n = omega (arith, mod-lt d {m = b} (omega (arith, w .0))) in
-      let remainder = w .2 ∙ sym (mod-eq-of-lt hr) in
-      let flags = eg ∙ ap₂ (λ (x : ℕ) (y : Bool). compareFlags n x b y f) (w .4) (w .3) in
-      let steps : t + 2 ≡ 7 + cordSteps n b d = omega (arith, w .5) in
-      rw (lt-ltb (d / 2 ^ n) b (w .0)) (λ i. accepted (quotient i) (remainder i) (flags i) (steps i))
+  unsigned-accepted hb {r} h {g} eg =
+      let w = when-accepted n b d 5 e h in
+      let quotient = w .quotient ∙ sym (mod-eq-of-lt (below d b (2 ^ n) (pow-pos n) (w .passed))) in
+      let hr : d % b < 2 ^ n = omega (arith, mod-lt d {m = b} (omega (arith, w .passed))) in
+      let remainder = w .remainder ∙ sym (mod-eq-of-lt hr) in
+      let flags = eg ∙ ap₂ (λ (x : ℕ) (y : Bool). compareFlags n x b y f) (w .compared) (w .carry) in
+      let steps : a .steps + 2 ≡ 7 + cordSteps n b d = omega (arith, w .steps) in
+      rw (lt-ltb (d / 2 ^ n) b (w .passed))
+      (λ i. record { outcome = accepted (record { quotient = quotient i; remainder = remainder i }); flags = flags i; steps = steps i })
 
 -- ---- signed
 
@@ -184,79 +219,79 @@ module _ (n d b : ℕ) (rep : Bool) (hn : 0 < n) (hd : d < 2 ^ (n + n)) (hb : b 
           absurd (omega (arith, below (dividendOf n true d) (2 ^ n) (divisorOf n true b) p q))
       by p false e = refl
 
-  module _ (f : Flags) where
-    pub signed-refused : {t : ℕ} → Cord.refused t ≡ cord n (divisorOf n true b) (dividendOf n true d) (6 + preSteps n d b) → refused FirstCompare f t ≡ divide n true rep d b f
-    unfolding divide
-    signed-refused e =
-        let w = when-refused n (divisorOf n true b) (dividendOf n true d) (6 + preSteps n d b) e in
-        rw (too-wide (w .0), le-leb (divisorOf n true b) (dividendOf n true d / 2 ^ n) (w .0)) (ap (refused FirstCompare f) (w .1 ∙ omega arith))
+  module _ (f : Flags) {a : CordAnswer} (e : a ≡ cord n (divisorOf n true b) (dividendOf n true d) (6 + preSteps n d b)) where
+    pub signed-refused : a .outcome ≡ Cord.refused → record { outcome = refused FirstCompare; flags = f; steps = a .steps } ≡ divide n true rep d b f
+    signed-refused h =
+        let w = when-refused n (divisorOf n true b) (dividendOf n true d) (6 + preSteps n d b) e h in
+        let first = le-leb (divisorOf n true b) (dividendOf n true d / 2 ^ n) (w .0) in
+        refused-is n true d b rep f (too-wide (w .0)) (first-refusal n true d b first) refl (w .1 ∙ rw first (omega arith))
 
-    module _ {q r : ℕ} {c : Bool} {l t : ℕ} (e : Cord.accepted q r c l t ≡ cord n (divisorOf n true b) (dividendOf n true d) (6 + preSteps n d b)) where
-      w : (dividendOf n true d / 2 ^ n < divisorOf n true b) × (q ≡ dividendOf n true d / divisorOf n true b) × (r ≡ dividendOf n true d % divisorOf n true b)
-          × (c ≡ ltb (dividendOf n true d / divisorOf n true b) (top n)) × (l ≡ lastCompare n (divisorOf n true b) n (dividendOf n true d))
-          × (t ≡ 6 + preSteps n d b + cordSteps n (divisorOf n true b) (dividendOf n true d))
-      w = when-accepted n (divisorOf n true b) (dividendOf n true d) (6 + preSteps n d b) e
+    module _ {r : Results} (h : a .outcome ≡ Cord.accepted r) where
+      w : AcceptedBy n (divisorOf n true b) (dividendOf n true d) (6 + preSteps n d b) a r
+      w = when-accepted n (divisorOf n true b) (dividendOf n true d) (6 + preSteps n d b) e h
 
-      ruled : accepts n true d b ≡ c
-      ruled = rule (omega (arith, w .0)) ∙ sym (w .3)
+      ruled : accepts n true d b ≡ a .carry
+      ruled = rule (omega (arith, w .passed)) ∙ sym (w .carry)
 
       -- refused for sign range
-      range-refused : (negate : Bool) {u : ℕ} → Idiv.refused u ≡ postIdiv n r (d / 2 ^ n) q c negate (t + 3) → refused SignRange f u ≡ divide n true rep d b f
-      unfolding divide postIdiv
-      range-refused negate {u} = by c ruled
+      range-refused : (negate : Bool) {u : ℕ} → Idiv.refused u ≡ postIdiv n r (d / 2 ^ n) (a .carry) negate (a .steps + 3)
+          → record { outcome = refused SignRange; flags = f; steps = u } ≡ divide n true rep d b f
+      unfolding postIdiv
+      range-refused negate {u} = by (a .carry) ruled
         where
           by : (c : Bool) → accepts n true d b ≡ c
-              → Idiv.refused u ≡ cond c (Idiv.accepted (withSign n negate q) (withSign n (topSet n (d / 2 ^ n)) r) (t + 3 + 10)) (Idiv.refused (t + 3 + 2))
-              → refused SignRange f u ≡ divide n true rep d b f
+              → Idiv.refused u ≡ cond c (Idiv.accepted (withSign n negate (r .quotient)) (withSign n (topSet n (d / 2 ^ n)) (r .remainder)) (a .steps + 3 + 10)) (Idiv.refused (a .steps + 3 + 2))
+              → record { outcome = refused SignRange; flags = f; steps = u } ≡ divide n true rep d b f
           by true x p = let z : _≡_ {A = ℕ} 0 1 = cc in absurd (omega arith)
           by false x p =
-              let steps : u ≡ t + 3 + 2 = cc in
-              rw (x, lt-leb (divisorOf n true b) (dividendOf n true d / 2 ^ n) (w .0)) (ap (refused SignRange f) (steps ∙ omega (arith, w .5)))
+              let later = lt-leb (divisorOf n true b) (dividendOf n true d / 2 ^ n) (w .passed) in
+              let steps : u ≡ a .steps + 3 + 2 = cc in
+              refused-is n true d b rep f x (later-refusal n true d b later) refl (steps ∙ rw later (omega (arith, w .steps)))
 
       -- accepted
       signed-accepted : {negate : Bool} → negate ≡ xor rep (xor (topSet (n + n) d) (topSet n b)) → {q′ r′ u : ℕ}
-          → Idiv.accepted q′ r′ u ≡ postIdiv n r (d / 2 ^ n) q c negate (t + 3)
-          → {k : ℕ} {g h : Flags} → k ≡ divisorOf n true b → g ≡ compareFlags n l k c f → h ≡ setCO false false g
-          → accepted q′ r′ h u ≡ divide n true rep d b f
+          → Idiv.accepted q′ r′ u ≡ postIdiv n r (d / 2 ^ n) (a .carry) negate (a .steps + 3)
+          → {k : ℕ} {g h : Flags} → k ≡ divisorOf n true b → g ≡ compareFlags n (a .compared) k (a .carry) f → h ≡ setCO false false g
+          → record { outcome = accepted (record { quotient = q′; remainder = r′ }); flags = h; steps = u } ≡ divide n true rep d b f
       unfolding divide postIdiv
-      signed-accepted {negate} en {q′} {r′} {u} = by c ruled (w .3)
+      signed-accepted {negate} en {q′} {r′} {u} = by (a .carry) ruled (w .carry)
         where
           quotient : dividendOf n true d / divisorOf n true b < top n
-              → withSign n negate q ≡ wrapped n (cond rep (negℤ (quotientOf n true d b)) (quotientOf n true d b))
+              → withSign n negate (r .quotient) ≡ wrapped n (cond rep (negℤ (quotientOf n true d b)) (quotientOf n true d b))
           quotient s =
-              ap₂ (withSign n) en (w .1)
+              ap₂ (withSign n) en (w .quotient)
               ∙ sym (wrapped-sign n (xor rep (xor (topSet (n + n) d) (topSet n b))) (dividendOf n true d / divisorOf n true b) (omega (arith, top-twice n hn)))
               ∙ ap (wrapped n) (sym (neg-once-more rep (xor (topSet (n + n) d) (topSet n b)) (dividendOf n true d / divisorOf n true b)))
-              ∙ ap (λ (z : ℤ). wrapped n (cond rep (negℤ z) z)) (sym (quotient-by (omega (arith, w .0))))
+              ∙ ap (λ (z : ℤ). wrapped n (cond rep (negℤ z) z)) (sym (quotient-by (omega (arith, w .passed))))
 
           small-rest : dividendOf n true d % divisorOf n true b < 2 ^ n
           small-rest =
-              omega (arith, mod-lt (dividendOf n true d) {m = divisorOf n true b} (omega (arith, w .0)), magnitude-plain n b hb, plain-lt n b hn hb)
+              omega (arith, mod-lt (dividendOf n true d) {m = divisorOf n true b} (omega (arith, w .passed)), magnitude-plain n b hb, plain-lt n b hn hb)
 
-          remainder : withSign n (topSet n (d / 2 ^ n)) r ≡ wrapped n (remainderOf n true d b)
+          remainder : withSign n (topSet n (d / 2 ^ n)) (r .remainder) ≡ wrapped n (remainderOf n true d b)
           remainder =
-              ap₂ (withSign n) (top-upper n d hn) (w .2)
+              ap₂ (withSign n) (top-upper n d hn) (w .remainder)
               ∙ sym (wrapped-sign n (topSet (n + n) d) (dividendOf n true d % divisorOf n true b) small-rest)
               ∙ ap (wrapped n) (sym remainder-by)
 
           by : (c : Bool) → accepts n true d b ≡ c → c ≡ ltb (dividendOf n true d / divisorOf n true b) (top n)
-              → Idiv.accepted q′ r′ u ≡ cond c (Idiv.accepted (withSign n negate q) (withSign n (topSet n (d / 2 ^ n)) r) (t + 3 + 10)) (Idiv.refused (t + 3 + 2))
-              → {k : ℕ} {g h : Flags} → k ≡ divisorOf n true b → g ≡ compareFlags n l k c f → h ≡ setCO false false g
-              → accepted q′ r′ h u ≡ divide n true rep d b f
+              → Idiv.accepted q′ r′ u ≡ cond c (Idiv.accepted (withSign n negate (r .quotient)) (withSign n (topSet n (d / 2 ^ n)) (r .remainder)) (a .steps + 3 + 10)) (Idiv.refused (a .steps + 3 + 2))
+              → {k : ℕ} {g h : Flags} → k ≡ divisorOf n true b → g ≡ compareFlags n (a .compared) k c f → h ≡ setCO false false g
+              → record { outcome = accepted (record { quotient = q′; remainder = r′ }); flags = h; steps = u } ≡ divide n true rep d b f
           by false x y p ek eg eh = let z : _≡_ {A = ℕ} 0 1 = cc in absurd (omega arith)
           by true x y p {k} {g} {h} ek eg eh =
               let s = ltb-true (dividendOf n true d / divisorOf n true b) (top n) (sym y) in
-              let eq : q′ ≡ withSign n negate q = cc in
-              let er : r′ ≡ withSign n (topSet n (d / 2 ^ n)) r = cc in
-              let eu : u ≡ t + 3 + 10 = cc in
-              let flags : h ≡ setCO false false (compareFlags n (lastCompare n (divisorOf n true b) n (dividendOf n true d)) (divisorOf n true b) (ltb (dividendOf n true d / divisorOf n true b) (top n)) f) =
-              eh ∙ ap (setCO false false) (eg ∙ λ i. compareFlags n (w .4 i) (ek i) (y i) f) in
-              let steps : u ≡ 19 + preSteps n d b + cordSteps n (divisorOf n true b) (dividendOf n true d) = eu ∙ omega (arith, w .5) in
-              rw x (λ i. accepted ((eq ∙ quotient s) i) ((er ∙ remainder) i) (flags i) (steps i))
+              let eq : q′ ≡ withSign n negate (r .quotient) = cc in
+              let er : r′ ≡ withSign n (topSet n (d / 2 ^ n)) (r .remainder) = cc in
+              let eu : u ≡ a .steps + 3 + 10 = cc in
+              let flags : h ≡ acceptedFlags n true d b f = eh ∙ ap (setCO false false) (eg ∙ λ i. compareFlags n (w .compared i) (ek i) (y i) f) in
+              let steps : u ≡ acceptedSteps n true d b = eu ∙ omega (arith, w .steps) in
+              rw x (λ i. record { outcome = accepted (record { quotient = (eq ∙ quotient s) i; remainder = (er ∙ remainder) i }); flags = flags i; steps = steps i })
 
       -- either way
       pub signed-finished : {negate : Bool} → negate ≡ xor rep (xor (topSet (n + n) d) (topSet n b)) → (p : Idiv.PostAnswer)
-          → p ≡ postIdiv n r (d / 2 ^ n) q c negate (t + 3) → {k : ℕ} {g : Flags} → k ≡ divisorOf n true b → g ≡ compareFlags n l k c f
+          → p ≡ postIdiv n r (d / 2 ^ n) (a .carry) negate (a .steps + 3)
+          → {k : ℕ} {g : Flags} → k ≡ divisorOf n true b → g ≡ compareFlags n (a .compared) k (a .carry) f
           → finished p g f ≡ divide n true rep d b f
       signed-finished en (Idiv.accepted q′ r′ u) ep ek eg = signed-accepted en ep ek eg refl
       signed-finished {negate} en (Idiv.refused u) ep ek eg = range-refused negate ep

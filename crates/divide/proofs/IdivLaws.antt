@@ -14,6 +14,7 @@ use Rattle.alu.specs.Result.{ResultCoa}
 use Rattle.alu.specs.Sum.{neg}
 use Rattle.alu.proofs.SumLaws.{neg-result}
 use Rattle.negate.specs.Negate.{Pair, Negate, pair, second, corNegate}
+use Rattle.divide.specs.Cord.{Results}
 use Rattle.divide.specs.Idiv.{preIdiv, withSign, PostAnswer, accepted, refused, postIdiv}
 
 abbrev later : Pair → ℕ → Pair
@@ -58,12 +59,12 @@ pub with-plus : (n x : ℕ) {s : Bool} → s ≡ false → x ≡ withSign n s x
 with-plus n x t = rw t
 
 -- POSTIDIV, by the carry that CORD left
-module _ (n r upper q : ℕ) {carry : Bool} (negate : Bool) (steps : ℕ) where
-  pub post-refuses : carry ≡ false → refused (steps + 2) ≡ postIdiv n r upper q carry negate steps
+module _ (n : ℕ) (r : Results) (upper : ℕ) {carry : Bool} (negate : Bool) (steps : ℕ) where
+  pub post-refuses : carry ≡ false → refused (steps + 2) ≡ postIdiv n r upper carry negate steps
   unfolding postIdiv
   post-refuses t = rw t
 
-  pub post-accepts : carry ≡ true → 0 < n → upper < 2 ^ n → {q′ r′ : ℕ} → q′ ≡ withSign n negate q → r′ ≡ withSign n (not (eqb (bitAnd upper (top n)) 0)) r
-      → accepted q′ r′ (steps + 10) ≡ postIdiv n r upper q carry negate steps
+  pub post-accepts : carry ≡ true → 0 < n → upper < 2 ^ n → {q′ r′ : ℕ} → q′ ≡ withSign n negate (r .quotient) → r′ ≡ withSign n (not (eqb (bitAnd upper (top n)) 0)) (r .remainder)
+      → accepted q′ r′ (steps + 10) ≡ postIdiv n r upper carry negate steps
   unfolding postIdiv
-  post-accepts t hn hu eq er = rw t (ap₂ (λ (x y : ℕ). accepted x y (steps + 10)) eq (er ∙ ap (λ (s : Bool). withSign n s r) (mask-top n upper hn hu)))
+  post-accepts t hn hu eq er = rw t (ap₂ (λ (x y : ℕ). accepted x y (steps + 10)) eq (er ∙ ap (λ (s : Bool). withSign n s (r .remainder)) (mask-top n upper hn hu)))

@@ -14,9 +14,7 @@ use Rattle.flags.specs.Numbers.{top, topSet}
 use Rattle.flags.specs.declared.word.Flags.{Flags}
 use Rattle.flags.proofs.Powers.{top-twice}
 use Rattle.flags.proofs.SignLaws.{plain-lt, magnitude-plain, abs-sign}
-use Rattle.divide.specs.Divide.{accepts, quotientOf, dividendOf, divisorOf, refusalOf, preSteps, refusedSteps, divide, stepsOf}
-use Rattle.divide.specs.declared.div.Refusal.{Refusal}
-use Rattle.divide.specs.declared.div.Refusal.the-variants.{FirstCompare, SignRange}
+use Rattle.divide.specs.Divide.{accepts, quotientOf, dividendOf, divisorOf, atFirst, preSteps, refusedSteps, divide}
 use Rattle.divide.specs.Cord.{cordSteps, noBorrows}
 use Rattle.divide.proofs.DivLaws.{below, pre-most, zero-or-not, rule, quotient-by}
 use Rattle.divide.proofs.CordLaws.{most-ones}
@@ -40,7 +38,7 @@ module _ (n d b : ℕ) (rep : Bool) (f : Flags) (hn : 0 < n) (hd : d < 2 ^ (n + 
       plain-ones n (divisorOf n true b) n (dividendOf n true d) divisor-pos divisor-half
       (below (dividendOf n true d) (2 ^ n) (divisorOf n true b) divisor-pos (omega (arith, in-range, top-twice n hn)))
 
-  pub steps-logged : stepsOf (divide n true rep d b f) ≡ 25 + preSteps n d b + 8 * n + (ones (natAbs (quotientOf n true d b)) + 2 * (natAbs (quotientOf n true d b) % 2))
+  pub steps-logged : divide n true rep d b f .steps ≡ 25 + preSteps n d b + 8 * n + (ones (natAbs (quotientOf n true d b)) + 2 * (natAbs (quotientOf n true d b) % 2))
   unfolding divide
   steps-logged = rw (agreed, quotient-is) (omega (arith, by-no-borrow))
 
@@ -50,27 +48,27 @@ module _ (n d b : ℕ) (rep : Bool) (f : Flags) (hn : 0 < n) (hd : d < 2 ^ (n + 
 -- ---- the most that a divide takes: 39 + 9n steps
 
 module _ (n d b : ℕ) (rep : Bool) (f : Flags) (hn : 0 < n) (hd : d < 2 ^ (n + n)) (hb : b < 2 ^ n) where
-  most-unsigned : (x : Bool) → accepts n false d b ≡ x → stepsOf (divide n false rep d b f) ≤ 39 + 9 * n
+  most-unsigned : (x : Bool) → accepts n false d b ≡ x → divide n false rep d b f .steps ≤ 39 + 9 * n
   unfolding divide
   most-unsigned true e = rw e (omega (arith, most-ones n b n d))
   most-unsigned false e = rw e (omega arith)
 
-  most-refused : (why : Refusal) → refusedSteps n true why d b ≤ 39 + 9 * n
-  most-refused FirstCompare = omega (arith, pre-most n d b)
-  most-refused SignRange = omega (arith, pre-most n d b, most-ones n (divisorOf n true b) n (dividendOf n true d))
+  most-refused : (first : Bool) → atFirst n true d b ≡ first → refusedSteps n true d b ≤ 39 + 9 * n
+  most-refused true e = rw e (omega (arith, pre-most n d b))
+  most-refused false e = rw e (omega (arith, pre-most n d b, most-ones n (divisorOf n true b) n (dividendOf n true d)))
 
-  most-signed : (x : Bool) → accepts n true d b ≡ x → stepsOf (divide n true rep d b f) ≤ 39 + 9 * n
+  most-signed : (x : Bool) → accepts n true d b ≡ x → divide n true rep d b f .steps ≤ 39 + 9 * n
   unfolding divide
   most-signed true e =
       rw e (omega (arith, pre-most n d b, by-no-borrow n d b rep f hn hd hb e, few-ones n d b rep f hn hd hb e))
-  most-signed false e = rw e (most-refused (refusalOf n true d b))
+  most-signed false e = rw e (most-refused (atFirst n true d b) refl)
 
-  pub most-steps : (s : Bool) → stepsOf (divide n s rep d b f) ≤ 39 + 9 * n
+  pub most-steps : (s : Bool) → divide n s rep d b f .steps ≤ 39 + 9 * n
   most-steps true = most-signed (accepts n true d b) refl
   most-steps false = most-unsigned (accepts n false d b) refl
 
-pub most-steps-8 : (d b : ℕ) (rep : Bool) (f : Flags) → d < 2 ^ 16 → b < 2 ^ 8 → (s : Bool) → stepsOf (divide 8 s rep d b f) ≤ 111
+pub most-steps-8 : (d b : ℕ) (rep : Bool) (f : Flags) → d < 2 ^ 16 → b < 2 ^ 8 → (s : Bool) → divide 8 s rep d b f .steps ≤ 111
 most-steps-8 d b rep f hd hb = most-steps 8 d b rep f (omega arith) hd hb
 
-pub most-steps-16 : (d b : ℕ) (rep : Bool) (f : Flags) → d < 2 ^ 32 → b < 2 ^ 16 → (s : Bool) → stepsOf (divide 16 s rep d b f) ≤ 183
+pub most-steps-16 : (d b : ℕ) (rep : Bool) (f : Flags) → d < 2 ^ 32 → b < 2 ^ 16 → (s : Bool) → divide 16 s rep d b f .steps ≤ 183
 most-steps-16 d b rep f hd hb = most-steps 16 d b rep f (omega arith) hd hb

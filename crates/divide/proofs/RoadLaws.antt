@@ -8,7 +8,7 @@ use native.Mathlib.Omega.{arith}
 use lib.Count.{ones, ones-cat}
 use lib.Dec.{leb, lit<}
 use borrow.Author.Tests.{leb-true, leb-false, lt-leb}
-use Rattle.divide.specs.Cord.{shifted, Road, shiftedOut, noBorrow, borrow as borrows, roadBy, road, one, noBorrows, cordSteps}
+use Rattle.divide.specs.Cord.{shifted, Road, shiftedOut, noBorrow, borrow as borrows, roadBy, road, tally, byNoBorrow, noBorrows, cordSteps}
 use Rattle.divide.proofs.CordLaws.{fits-once, fits-not}
 
 -- what a round compares is less than twice the divisor
@@ -29,13 +29,13 @@ ones-even : (q : ℕ) → ones (q * 2) ≡ ones q
 unfolding ones
 ones-even q = let z : q * 2 ≡ q * 2 ^ 1 + 0 = omega arith in ap ones z ∙ ones-cat 1 q 0 (lit< tt) ∙ omega arith
 
-one-more : (n b k p : ℕ) → 0 < b → noBorrows n b k (p / 2) ≡ ones (p / 2 / b) → noBorrows n b k (p / 2) + one (roadBy false (leb b (shifted b p))) ≡ ones (p / b)
+one-more : (n b k p : ℕ) → 0 < b → noBorrows n b k (p / 2) ≡ ones (p / 2 / b) → noBorrows n b k (p / 2) + byNoBorrow (roadBy false (leb b (shifted b p))) ≡ ones (p / b)
 one-more n b k p pos before = by (leb b (shifted b p)) refl
   where
     whole : p / 2 * 2 + p % 2 ≡ p
     whole = div-add-mod' p 2
 
-    by : (x : Bool) → leb b (shifted b p) ≡ x → noBorrows n b k (p / 2) + one (roadBy false x) ≡ ones (p / b)
+    by : (x : Bool) → leb b (shifted b p) ≡ x → noBorrows n b k (p / 2) + byNoBorrow (roadBy false x) ≡ ones (p / b)
     by true e =
         let q = fits-once b (p / 2) (p % 2) (shifted b p) refl (mod-lt p (lit< tt)) (leb-true b (shifted b p) e) (mod-lt (p / 2) pos) .0 in
         ap (λ (x : ℕ). x + 1) before ∙ sym (ones-odd (p / 2 / b)) ∙ ap ones (sym q ∙ ap (λ (x : ℕ). x / b) whole)
@@ -45,10 +45,10 @@ one-more n b k p pos before = by (leb b (shifted b p)) refl
 
 -- so every one of the quotient comes by no borrow
 pub plain-ones : (n b k p : ℕ) → 0 < b → b * 2 ≤ 2 ^ n → p / 2 ^ k < b → noBorrows n b k p ≡ ones (p / b)
-unfolding noBorrows ones
+unfolding tally ones
 plain-ones n b zero p pos h small = let none : p / b ≡ 0 = div-eq-of-lt (omega arith) in sym (ap ones none)
 plain-ones n b (suc k) p pos h small =
-    ap (λ (r : Road). noBorrows n b k (p / 2) + one r) (never-out n b p pos h) ∙ one-more n b k p pos (plain-ones n b k (p / 2) pos h halved)
+    ap (λ (r : Road). noBorrows n b k (p / 2) + byNoBorrow r) (never-out n b p pos h) ∙ one-more n b k p pos (plain-ones n b k (p / 2) pos h halved)
   where
     halved : p / 2 / 2 ^ k < b
     halved = rw div-div-eq-div-mul (rw (mul-comm 2 (2 ^ k), ← pow-suc 2 k) small)
@@ -56,20 +56,19 @@ plain-ones n b (suc k) p pos h small =
 -- ---- the steps road by road: 7, 8 or 7 for a round, and 1 for each jump back
 
 abbrev pub roadSteps : Road → ℕ
-roadSteps shiftedOut = 7
-roadSteps noBorrow = 8
-roadSteps borrows = 7
+roadSteps shiftedOut = 7 + 1
+roadSteps noBorrow = 8 + 1
+roadSteps borrows = 7 + 1
 
-pub walkSteps : ℕ → ℕ → ℕ → ℕ → ℕ
-walkSteps n b zero p = 0
-walkSteps n b (suc k) p = walkSteps n b k (p / 2) + (roadSteps (road n b p) + 1)
+abbrev pub walkSteps : ℕ → ℕ → ℕ → ℕ → ℕ
+walkSteps = tally roadSteps
 
 walk-steps : (n b k p : ℕ) → walkSteps n b k p ≡ 8 * k + noBorrows n b k p
-unfolding walkSteps noBorrows
+unfolding tally
 walk-steps n b zero p = refl
 walk-steps n b (suc k) p = omega (arith, walk-steps n b k (p / 2), by (road n b p))
   where
-    by : (r : Road) → roadSteps r ≡ 7 + one r
+    by : (r : Road) → roadSteps r ≡ 8 + byNoBorrow r
     by shiftedOut = refl
     by noBorrow = refl
     by borrows = refl

@@ -46,5 +46,5 @@ module _ {n a b c steps : ℕ} {at : Round} {left : ℕ} (t : Turning n a b c st
 
     -- the last round has no jump back
     pub ends : left ≡ 1 → {carry : Bool} {all : ℕ} → carry ≡ ltb (r .tmpc) (top n) → all ≡ r .steps + 4 + 2 * (r .tmpc % 2)
-        → accepted (r .tmpc) (r .tmpa) carry (r .compared) all ≡ cord n b (a * 2 ^ n + c) steps
+        → record { outcome = accepted (record { quotient = r .tmpc; remainder = r .tmpa }); carry = carry; compared = r .compared; steps = all } ≡ cord n b (a * 2 ^ n + c) steps
     ends one = cord-accepts n b a c steps (t .passed) (t .divisor) (t .lower) (omega (arith, t .count)) (t .rounds) at r (t .walked) e (omega (arith, t .count))

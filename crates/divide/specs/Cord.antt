@@ -5,10 +5,22 @@ use Prim.Native.Nat.{ℕ, zero, suc, _+_, _*_, _/_, _%_, _^_}
 use lib.Dec.{leb, ltb}
 use Rattle.flags.specs.Numbers.{top}
 
--- quotient, remainder, C, the left side of the last compare and the steps; or refused after so many steps
-pub data CordAnswer : Type 0 where
-  accepted : (quotient remainder : ℕ) (carry : Bool) (compared steps : ℕ) → CordAnswer
-  refused : (steps : ℕ) → CordAnswer
+-- what an accepted divide gives
+pub record Results : Type 0 where
+  pub quotient : ℕ
+  pub remainder : ℕ
+
+-- whether it does
+pub data CordOutcome : Type 0 where
+  accepted : Results → CordOutcome
+  refused : CordOutcome
+
+-- besides, whichever it is: C, the left side of the last compare made, and the steps
+pub record CordAnswer : Type 0 where
+  pub outcome : CordOutcome
+  pub carry : Bool
+  pub compared : ℕ
+  pub steps : ℕ
 
 -- the rounds take in the dividend's lower half bit by bit. p is the dividend as far as it is taken in, the bit just taken last; what the
 -- round compares with b is the remainder so far, shifted left, with that bit
@@ -29,16 +41,20 @@ roadBy false false = borrow
 unfoldable pub road : ℕ → ℕ → ℕ → Road
 road n b p = roadBy (leb (2 ^ n) (shifted b p)) (leb b (shifted b p))
 
--- the ones by no borrow that a round adds
-abbrev pub one : Road → ℕ
-one shiftedOut = 0
-one noBorrow = 1
-one borrow = 0
+-- what each road counts, added up over the first k rounds
+unfoldable pub tally : (Road → ℕ) → ℕ → ℕ → ℕ → ℕ → ℕ
+tally counts n b zero p = 0
+tally counts n b (suc k) p = tally counts n b k (p / 2) + counts (road n b p)
 
--- and of the first k rounds
-unfoldable pub noBorrows : ℕ → ℕ → ℕ → ℕ → ℕ
-noBorrows n b zero p = 0
-noBorrows n b (suc k) p = noBorrows n b k (p / 2) + one (road n b p)
+-- a one by no borrow
+abbrev pub byNoBorrow : Road → ℕ
+byNoBorrow shiftedOut = 0
+byNoBorrow noBorrow = 1
+byNoBorrow borrow = 0
+
+-- how many there are
+abbrev pub noBorrows : ℕ → ℕ → ℕ → ℕ → ℕ
+noBorrows = tally byNoBorrow
 
 -- a round in which a bit is shifted out makes no compare
 abbrev pub lastBy : Road → ℕ → ℕ → ℕ
@@ -55,9 +71,20 @@ lastCompare n b (suc k) p = lastBy (road n b p) (lastCompare n b k (p / 2)) (shi
 abbrev pub cordSteps : ℕ → ℕ → ℕ → ℕ
 cordSteps n b d = 6 + 8 * n + noBorrows n b n d + 2 * (d / b % 2)
 
--- refused where the upper half is at least the divisor, after 4 steps; else the quotient and the remainder, whether the quotient is below
--- the top bit, and the last compare
+-- refused where the upper half is at least the divisor, after the one compare and 4 steps, with C clear
+abbrev pub cordRefused : ℕ → ℕ → ℕ → CordAnswer
+cordRefused n d steps = record { outcome = refused; carry = false; compared = d / 2 ^ n; steps = steps + 4 }
+
+-- else the quotient and the remainder; C says that the quotient lies below the top bit
+abbrev pub cordAccepted : ℕ → ℕ → ℕ → ℕ → CordAnswer
+cordAccepted n b d steps =
+    record {
+      outcome = accepted (record { quotient = d / b; remainder = d % b });
+      carry = ltb (d / b) (top n);
+      compared = lastCompare n b n d;
+      steps = steps + cordSteps n b d;
+    }
+
+-- the first compare decides
 unfoldable pub cord : ℕ → ℕ → ℕ → ℕ → CordAnswer
-cord n b d steps =
-    cond (leb b (d / 2 ^ n)) (refused (steps + 4))
-    (accepted (d / b) (d % b) (ltb (d / b) (top n)) (lastCompare n b n d) (steps + cordSteps n b d))
+cord n b d steps = cond (leb b (d / 2 ^ n)) (cordRefused n d steps) (cordAccepted n b d steps)

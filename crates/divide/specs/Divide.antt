@@ -1,4 +1,4 @@
--- Divide: 2n bits by n bits. Quotient, remainder and refusals are the manual's; REP, flags and steps are the chart's.
+-- Divide: 2n bits by n bits. Results, remainder and refusals are the manual's; REP, flags and steps are the chart's.
 -- Assumes nothing.
 use mathlib.Core.Bool.{Bool, true, false, not, cond, _&&_}
 use Prim.Native.Nat.{ℕ, _+_, _*_, _/_, _%_, _^_}
@@ -8,21 +8,22 @@ use lib.Signed.{quotZ, remZ}
 use Rattle.flags.specs.Numbers.{top, topSet, valued, magnitude, wrapped}
 use Rattle.flags.specs.Word.{setCO}
 use Rattle.flags.specs.declared.word.Flags.{Flags}
-use Rattle.divide.specs.Cord.{lastCompare, cordSteps}
+use Rattle.divide.specs.Cord.{Results, lastCompare, cordSteps}
 use Rattle.divide.specs.Flags.{compareFlags}
 use Rattle.divide.specs.Idiv as Idiv
 use Rattle.divide.specs.declared.div.Refusal.{Refusal}
 use Rattle.divide.specs.declared.div.Refusal.the-variants.{FirstCompare, SignRange}
 
--- what a divide answers
-pub data Divided : Type 0 where
-  accepted : (quotient remainder : ℕ) (flags : Flags) (steps : ℕ) → Divided
-  refused : (refusal : Refusal) (flags : Flags) (steps : ℕ) → Divided
+-- the results, or why there are none
+pub data DivideOutcome : Type 0 where
+  accepted : Results → DivideOutcome
+  refused : Refusal → DivideOutcome
 
--- the steps of an answer, accepted or refused
-abbrev pub stepsOf : Divided → ℕ
-stepsOf (accepted q r f t) = t
-stepsOf (refused why f t) = t
+-- what a divide answers, with the flags and the steps of either
+pub record Divided : Type 0 where
+  pub outcome : DivideOutcome
+  pub flags : Flags
+  pub steps : ℕ
 
 -- the quotient of the numbers that dividend d and divisor b stand for, cut towards zero
 abbrev pub quotientOf : ℕ → Bool → ℕ → ℕ → ℤ
@@ -46,9 +47,13 @@ dividendOf n s d = magnitude s (n + n) d
 abbrev pub divisorOf : ℕ → Bool → ℕ → ℕ
 divisorOf n s b = magnitude s n b
 
--- a refusal comes from the first compare of upper half and divisor, or else for sign range
-abbrev pub refusalOf : ℕ → Bool → ℕ → ℕ → Refusal
-refusalOf n s d b = cond (leb (divisorOf n s b) (dividendOf n s d / 2 ^ n)) FirstCompare SignRange
+-- a divide that is refused is so at the first compare, where the upper half is at least the divisor, or else later
+abbrev pub atFirst : ℕ → Bool → ℕ → ℕ → Bool
+atFirst n s d b = leb (divisorOf n s b) (dividendOf n s d / 2 ^ n)
+
+-- why it is, read only of a divide that is refused: by the first compare, or for sign range
+unfoldable pub refusalOf : ℕ → Bool → ℕ → ℕ → Refusal
+refusalOf n s d b = cond (atFirst n s d b) FirstCompare SignRange
 
 -- PREIDIV: 7 steps for a negative dividend or 3, and 5 for a negative divisor or 6
 abbrev pub preSteps : ℕ → ℕ → ℕ → ℕ
@@ -59,11 +64,11 @@ abbrev pub acceptedSteps : ℕ → Bool → ℕ → ℕ → ℕ
 acceptedSteps n false d b = 7 + cordSteps n b d
 acceptedSteps n true d b = 19 + preSteps n d b + cordSteps n (divisorOf n true b) (dividendOf n true d)
 
--- those of a refusal: 9; signed, 10 and PREIDIV's, or for sign range 11 and PREIDIV's and CORD's
-abbrev pub refusedSteps : ℕ → Bool → Refusal → ℕ → ℕ → ℕ
-refusedSteps n false refusal d b = 9
-refusedSteps n true FirstCompare d b = 10 + preSteps n d b
-refusedSteps n true SignRange d b = 11 + preSteps n d b + cordSteps n (divisorOf n true b) (dividendOf n true d)
+-- those of a refusal: 9; signed, 10 and PREIDIV's at the first compare, or for sign range 11 and PREIDIV's and CORD's
+abbrev pub refusedSteps : ℕ → Bool → ℕ → ℕ → ℕ
+refusedSteps n false d b = 9
+refusedSteps n true d b =
+    cond (atFirst n true d b) (10 + preSteps n d b) (11 + preSteps n d b + cordSteps n (divisorOf n true b) (dividendOf n true d))
 
 -- those of the last compare; C says that the quotient lies below 2 ^ (n - 1)
 abbrev pub cordFlags : ℕ → ℕ → ℕ → Flags → Flags
@@ -75,21 +80,26 @@ acceptedFlags n false d b f = cordFlags n b d f
 acceptedFlags n true d b f = setCO false false (cordFlags n (divisorOf n true b) (dividendOf n true d) f)
 
 -- after a refusal, those handed in
-abbrev pub refusedFlags : Refusal → Flags → Flags
-refusedFlags refusal f = f
+abbrev pub refusedFlags : ℕ → Bool → ℕ → ℕ → Flags → Flags
+refusedFlags n s d b f = f
 
 -- REP negates a signed quotient
 abbrev pub quotientReturned : Bool → Bool → ℤ → ℤ
 quotientReturned s rep q = cond (s && rep) (negℤ q) q
 
+-- the n bits of quotient and remainder
+abbrev pub resultsOf : ℕ → Bool → Bool → ℕ → ℕ → Results
+resultsOf n s rep d b =
+    record { quotient = wrapped n (quotientReturned s rep (quotientOf n s d b)); remainder = wrapped n (remainderOf n s d b) }
+
 -- the divide chart: quotient, remainder, flags and steps if accepted; else the refusal, its flags and its steps
 unfoldable pub divide : ℕ → Bool → Bool → ℕ → ℕ → Flags → Divided
 divide n s rep d b f =
     cond (accepts n s d b)
-    (accepted (wrapped n (quotientReturned s rep (quotientOf n s d b))) (wrapped n (remainderOf n s d b)) (acceptedFlags n s d b f) (acceptedSteps n s d b))
-    (refused (refusalOf n s d b) (refusedFlags (refusalOf n s d b) f) (refusedSteps n s (refusalOf n s d b) d b))
+    (record { outcome = accepted (resultsOf n s rep d b); flags = acceptedFlags n s d b f; steps = acceptedSteps n s d b })
+    (record { outcome = refused (refusalOf n s d b); flags = refusedFlags n s d b f; steps = refusedSteps n s d b })
 
 -- what POSTIDIV's answer makes of a signed divide whose last compare left the flags g
 abbrev pub finished : Idiv.PostAnswer → Flags → Flags → Divided
-finished (Idiv.accepted q r t) g f = accepted q r (setCO false false g) t
-finished (Idiv.refused t) g f = refused SignRange (refusedFlags SignRange f) t
+finished (Idiv.accepted q r t) g f = record { outcome = accepted (record { quotient = q; remainder = r }); flags = setCO false false g; steps = t }
+finished (Idiv.refused t) g f = record { outcome = refused SignRange; flags = f; steps = t }

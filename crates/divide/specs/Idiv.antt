@@ -4,6 +4,7 @@ use mathlib.Core.Bool.{Bool, true, false, cond, xor}
 use Prim.Native.Nat.{ℕ, _+_, _*_, _/_, _%_, _^_}
 use Rattle.flags.specs.Numbers.{topSet, negated}
 use Rattle.negate.specs.Negate.{Pair, Negate}
+use Rattle.divide.specs.Cord.{Results}
 
 -- two's complement: x, or x taken from 0 where the sign is to be given or taken away
 abbrev pub withSign : ℕ → Bool → ℕ → ℕ
@@ -27,6 +28,6 @@ pub data PostAnswer : Type 0 where
   refused : (steps : ℕ) → PostAnswer
 
 -- refused after 2 steps where the quotient is not below the top bit; else the two signs are given: 10 steps
-unfoldable pub postIdiv : ℕ → ℕ → ℕ → ℕ → Bool → Bool → ℕ → PostAnswer
-postIdiv n r upper q carry negate steps =
-    cond carry (accepted (withSign n negate q) (withSign n (topSet n upper) r) (steps + 10)) (refused (steps + 2))
+unfoldable pub postIdiv : ℕ → Results → ℕ → Bool → Bool → ℕ → PostAnswer
+postIdiv n r upper carry negate steps =
+    cond carry (accepted (withSign n negate (r .quotient)) (withSign n (topSet n upper) (r .remainder)) (steps + 10)) (refused (steps + 2))

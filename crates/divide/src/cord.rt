@@ -5,7 +5,7 @@ ghost use mathlib.Core.Path.{_≡_};
 ghost use Prim.Native.Nat.{_+_, _*_, _<_};
 ghost use Rattle.divide.specs.Round.{cordRound};
 ghost use Rattle.divide.specs.Cord.{cord};
-ghost use Rattle.divide.specs.Views.{round8, round16, cord8Answer, cord16Answer};
+ghost use Rattle.divide.specs.Views.{round8, round16, cordAnswer8, cordAnswer16};
 use alu::step;
 use alu::subtraction;
 use flags::width::Width8;
@@ -19,17 +19,22 @@ pub struct CordRound8 {
     pub steps: u16,
 }
 
-pub enum CordAnswer8 {
-    Accepted {
-        quotient: u8,
-        remainder: u8,
-        carry: bool,
-        compared: u8,
-        steps: u16,
-    },
-    Refused {
-        steps: u16,
-    },
+pub struct Results8 {
+    pub quotient: u8,
+    pub remainder: u8,
+}
+
+pub enum CordOutcome8 {
+    Accepted(Results8),
+    Refused,
+}
+
+// C, the left side of the last compare made, and the steps, whatever came of it.
+pub struct CordAnswer8 {
+    pub outcome: CordOutcome8,
+    pub carry: bool,
+    pub compared: u8,
+    pub steps: u16,
 }
 
 // A round, without the jump back, by one of three roads: a bit shifted out, no borrow, borrow.
@@ -68,10 +73,15 @@ fn cord_round8(from: CordRound8, tmpb: u8) -> CordRound8
 // The quotient fits its half exactly if the upper half is below the divisor, so one compare refuses.
 pub fn cord8(tmpa: u8, tmpb: u8, tmpc: u8, steps: u16) -> CordAnswer8
     requires { ⌜ steps < 100 ⌝ }
-    ensures { λ r. ⌜ cord8Answer r ≡ cord 8 tmpb (tmpa * 0x100 + tmpc) steps ⌝ }
+    ensures { λ r. ⌜ cordAnswer8 r ≡ cord 8 tmpb (tmpa * 0x100 + tmpc) steps ⌝ }
 {
     if tmpb <= tmpa {
-        return CordAnswer8::Refused { steps: steps + 4 };
+        return CordAnswer8 {
+            outcome: CordOutcome8::Refused,
+            carry: false,
+            compared: tmpa,
+            steps: steps + 4,
+        };
     }
     let mut at = CordRound8 {
         tmpa,
@@ -88,9 +98,11 @@ pub fn cord8(tmpa: u8, tmpb: u8, tmpc: u8, steps: u16) -> CordAnswer8
         }
         at.steps += 1;
     };
-    CordAnswer8::Accepted {
-        quotient: end.tmpc,
-        remainder: end.tmpa,
+    CordAnswer8 {
+        outcome: CordOutcome8::Accepted(Results8 {
+            quotient: end.tmpc,
+            remainder: end.tmpa,
+        }),
         carry: end.tmpc & Width8::TOP == 0,
         compared: end.compared,
         steps: end.steps + 4 + 2 * (end.tmpc & 1) as u16,
@@ -105,17 +117,22 @@ pub struct CordRound16 {
     pub steps: u16,
 }
 
-pub enum CordAnswer16 {
-    Accepted {
-        quotient: u16,
-        remainder: u16,
-        carry: bool,
-        compared: u16,
-        steps: u16,
-    },
-    Refused {
-        steps: u16,
-    },
+pub struct Results16 {
+    pub quotient: u16,
+    pub remainder: u16,
+}
+
+pub enum CordOutcome16 {
+    Accepted(Results16),
+    Refused,
+}
+
+// C, the left side of the last compare made, and the steps, whatever came of it.
+pub struct CordAnswer16 {
+    pub outcome: CordOutcome16,
+    pub carry: bool,
+    pub compared: u16,
+    pub steps: u16,
 }
 
 // A round, without the jump back, by one of three roads: a bit shifted out, no borrow, borrow.
@@ -154,10 +171,15 @@ fn cord_round16(from: CordRound16, tmpb: u16) -> CordRound16
 // The quotient fits its half exactly if the upper half is below the divisor, so one compare refuses.
 pub fn cord16(tmpa: u16, tmpb: u16, tmpc: u16, steps: u16) -> CordAnswer16
     requires { ⌜ steps < 100 ⌝ }
-    ensures { λ r. ⌜ cord16Answer r ≡ cord 16 tmpb (tmpa * 0x1_0000 + tmpc) steps ⌝ }
+    ensures { λ r. ⌜ cordAnswer16 r ≡ cord 16 tmpb (tmpa * 0x1_0000 + tmpc) steps ⌝ }
 {
     if tmpb <= tmpa {
-        return CordAnswer16::Refused { steps: steps + 4 };
+        return CordAnswer16 {
+            outcome: CordOutcome16::Refused,
+            carry: false,
+            compared: tmpa,
+            steps: steps + 4,
+        };
     }
     let mut at = CordRound16 {
         tmpa,
@@ -174,9 +196,11 @@ pub fn cord16(tmpa: u16, tmpb: u16, tmpc: u16, steps: u16) -> CordAnswer16
         }
         at.steps += 1;
     };
-    CordAnswer16::Accepted {
-        quotient: end.tmpc,
-        remainder: end.tmpa,
+    CordAnswer16 {
+        outcome: CordOutcome16::Accepted(Results16 {
+            quotient: end.tmpc,
+            remainder: end.tmpa,
+        }),
         carry: end.tmpc & Width16::TOP == 0,
         compared: end.compared,
         steps: end.steps + 4 + 2 * (end.tmpc & 1),

@@ -6,8 +6,10 @@ ghost use Rattle.divide.specs.Divide.{divide, finished};
 ghost use Rattle.divide.specs.Views.{post8Answer, post16Answer, divided8, divided16};
 ghost use mathlib.Core.Bool.{true, false};
 use crate::cord;
-use crate::cord::CordAnswer8;
-use crate::cord::CordAnswer16;
+use crate::cord::CordOutcome8;
+use crate::cord::CordOutcome16;
+use crate::cord::Results8;
+use crate::cord::Results16;
 use crate::idiv;
 use crate::idiv::PostIdiv8;
 use crate::idiv::PostIdiv16;
@@ -24,18 +26,15 @@ pub enum Refusal {
     SignRange,
 }
 
-pub enum Divided8 {
-    Accepted {
-        quotient: u8,
-        remainder: u8,
-        flags: Flags,
-        steps: u16,
-    },
-    Refused {
-        refusal: Refusal,
-        flags: Flags,
-        steps: u16,
-    },
+pub enum DivideOutcome8 {
+    Accepted(Results8),
+    Refused(Refusal),
+}
+
+pub struct Divided8 {
+    pub outcome: DivideOutcome8,
+    pub flags: Flags,
+    pub steps: u16,
 }
 
 // The flags of a compare. The setter is that of 16 bits at either width, so S is clear at 8.
@@ -54,23 +53,18 @@ fn unsigned_div8(dividend: u16, divisor: u8, flags: Flags, table: &[u8; 256]) ->
 {
     let upper = (dividend / 0x100) as u8;
     let lower = (dividend % 0x100) as u8;
-    match cord::cord8(upper, divisor, lower, 5) {
-        CordAnswer8::Accepted {
-            quotient,
-            remainder,
-            carry,
-            compared,
-            steps,
-        } => Divided8::Accepted {
-            quotient,
-            remainder,
-            flags: compare_flags8(flags, compared, divisor, carry, table),
-            steps: steps + 2,
+    let made = cord::cord8(upper, divisor, lower, 5);
+    let outcome = made.outcome;
+    match outcome {
+        CordOutcome8::Accepted(results) => Divided8 {
+            outcome: DivideOutcome8::Accepted(results),
+            flags: compare_flags8(flags, made.compared, divisor, made.carry, table),
+            steps: made.steps + 2,
         },
-        CordAnswer8::Refused { steps } => Divided8::Refused {
-            refusal: Refusal::FirstCompare,
+        CordOutcome8::Refused => Divided8 {
+            outcome: DivideOutcome8::Refused(Refusal::FirstCompare),
             flags,
-            steps,
+            steps: made.steps,
         },
     }
 }
@@ -84,14 +78,16 @@ fn finish8(post: PostIdiv8, compare: Flags, flags: Flags) -> Divided8
             quotient,
             remainder,
             steps,
-        } => Divided8::Accepted {
-            quotient,
-            remainder,
+        } => Divided8 {
+            outcome: DivideOutcome8::Accepted(Results8 {
+                quotient,
+                remainder,
+            }),
             flags: compare.with_co(false, false),
             steps,
         },
-        PostIdiv8::Refused { steps } => Divided8::Refused {
-            refusal: Refusal::SignRange,
+        PostIdiv8::Refused { steps } => Divided8 {
+            outcome: DivideOutcome8::Refused(Refusal::SignRange),
             flags,
             steps,
         },
@@ -117,22 +113,18 @@ fn signed_div8(
         steps: 4,
     };
     let pre = idiv::pre_idiv8(from, divisor);
-    match cord::cord8(pre.tmpa, pre.tmpb, pre.tmpc, pre.steps + 2) {
-        CordAnswer8::Accepted {
-            quotient,
-            remainder,
-            carry,
-            compared,
-            steps,
-        } => {
-            let post = idiv::post_idiv8(remainder, upper, quotient, carry, pre.neg_flag, steps + 3);
-            let compare = compare_flags8(flags, compared, pre.tmpb, carry, table);
+    let made = cord::cord8(pre.tmpa, pre.tmpb, pre.tmpc, pre.steps + 2);
+    let outcome = made.outcome;
+    match outcome {
+        CordOutcome8::Accepted(results) => {
+            let post = idiv::post_idiv8(results, upper, made.carry, pre.neg_flag, made.steps + 3);
+            let compare = compare_flags8(flags, made.compared, pre.tmpb, made.carry, table);
             finish8(post, compare, flags)
         }
-        CordAnswer8::Refused { steps } => Divided8::Refused {
-            refusal: Refusal::FirstCompare,
+        CordOutcome8::Refused => Divided8 {
+            outcome: DivideOutcome8::Refused(Refusal::FirstCompare),
             flags,
-            steps,
+            steps: made.steps,
         },
     }
 }
@@ -156,18 +148,15 @@ pub fn div8(
     }
 }
 
-pub enum Divided16 {
-    Accepted {
-        quotient: u16,
-        remainder: u16,
-        flags: Flags,
-        steps: u16,
-    },
-    Refused {
-        refusal: Refusal,
-        flags: Flags,
-        steps: u16,
-    },
+pub enum DivideOutcome16 {
+    Accepted(Results16),
+    Refused(Refusal),
+}
+
+pub struct Divided16 {
+    pub outcome: DivideOutcome16,
+    pub flags: Flags,
+    pub steps: u16,
 }
 
 // The flags of a compare. The setter is that of 16 bits at either width, so S is clear at 8.
@@ -186,23 +175,18 @@ fn unsigned_div16(dividend: u32, divisor: u16, flags: Flags, table: &[u8; 256]) 
 {
     let upper = (dividend / 0x1_0000) as u16;
     let lower = (dividend % 0x1_0000) as u16;
-    match cord::cord16(upper, divisor, lower, 5) {
-        CordAnswer16::Accepted {
-            quotient,
-            remainder,
-            carry,
-            compared,
-            steps,
-        } => Divided16::Accepted {
-            quotient,
-            remainder,
-            flags: compare_flags16(flags, compared, divisor, carry, table),
-            steps: steps + 2,
+    let made = cord::cord16(upper, divisor, lower, 5);
+    let outcome = made.outcome;
+    match outcome {
+        CordOutcome16::Accepted(results) => Divided16 {
+            outcome: DivideOutcome16::Accepted(results),
+            flags: compare_flags16(flags, made.compared, divisor, made.carry, table),
+            steps: made.steps + 2,
         },
-        CordAnswer16::Refused { steps } => Divided16::Refused {
-            refusal: Refusal::FirstCompare,
+        CordOutcome16::Refused => Divided16 {
+            outcome: DivideOutcome16::Refused(Refusal::FirstCompare),
             flags,
-            steps,
+            steps: made.steps,
         },
     }
 }
@@ -216,14 +200,16 @@ fn finish16(post: PostIdiv16, compare: Flags, flags: Flags) -> Divided16
             quotient,
             remainder,
             steps,
-        } => Divided16::Accepted {
-            quotient,
-            remainder,
+        } => Divided16 {
+            outcome: DivideOutcome16::Accepted(Results16 {
+                quotient,
+                remainder,
+            }),
             flags: compare.with_co(false, false),
             steps,
         },
-        PostIdiv16::Refused { steps } => Divided16::Refused {
-            refusal: Refusal::SignRange,
+        PostIdiv16::Refused { steps } => Divided16 {
+            outcome: DivideOutcome16::Refused(Refusal::SignRange),
             flags,
             steps,
         },
@@ -249,29 +235,18 @@ fn signed_div16(
         steps: 4,
     };
     let pre = idiv::pre_idiv16(from, divisor);
-    match cord::cord16(pre.tmpa, pre.tmpb, pre.tmpc, pre.steps + 2) {
-        CordAnswer16::Accepted {
-            quotient,
-            remainder,
-            carry,
-            compared,
-            steps,
-        } => {
-            let post = idiv::post_idiv16(
-                remainder,
-                upper,
-                quotient,
-                carry,
-                pre.neg_flag,
-                steps + 3,
-            );
-            let compare = compare_flags16(flags, compared, pre.tmpb, carry, table);
+    let made = cord::cord16(pre.tmpa, pre.tmpb, pre.tmpc, pre.steps + 2);
+    let outcome = made.outcome;
+    match outcome {
+        CordOutcome16::Accepted(results) => {
+            let post = idiv::post_idiv16(results, upper, made.carry, pre.neg_flag, made.steps + 3);
+            let compare = compare_flags16(flags, made.compared, pre.tmpb, made.carry, table);
             finish16(post, compare, flags)
         }
-        CordAnswer16::Refused { steps } => Divided16::Refused {
-            refusal: Refusal::FirstCompare,
+        CordOutcome16::Refused => Divided16 {
+            outcome: DivideOutcome16::Refused(Refusal::FirstCompare),
             flags,
-            steps,
+            steps: made.steps,
         },
     }
 }

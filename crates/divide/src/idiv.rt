@@ -4,7 +4,9 @@ ghost use mathlib.Core.Path.{_≡_};
 ghost use Prim.Native.Nat.{_<_};
 ghost use Rattle.negate.specs.Views.{pair8, pair16, negate8, negate16};
 ghost use Rattle.divide.specs.Idiv.{preIdiv, postIdiv, withSign};
-ghost use Rattle.divide.specs.Views.{post8Answer, post16Answer};
+ghost use Rattle.divide.specs.Views.{results8, results16, post8Answer, post16Answer};
+use crate::cord::Results8;
+use crate::cord::Results16;
 use alu::subtraction;
 use flags::width::Width8;
 use flags::width::Width16;
@@ -60,23 +62,16 @@ fn with_sign8(negative: bool, magnitude: u8) -> u8
 }
 
 // The remainder takes the sign of the dividend, whose upper half tells it.
-pub fn post_idiv8(
-    remainder: u8,
-    upper: u8,
-    quotient: u8,
-    carry: bool,
-    negate: bool,
-    steps: u16,
-) -> PostIdiv8
+pub fn post_idiv8(results: Results8, upper: u8, carry: bool, negate: bool, steps: u16) -> PostIdiv8
     requires { ⌜ steps < 1000 ⌝ }
-    ensures { λ r. ⌜ post8Answer r ≡ postIdiv 8 remainder upper quotient carry negate steps ⌝ }
+    ensures { λ r. ⌜ post8Answer r ≡ postIdiv 8 (results8 results) upper carry negate steps ⌝ }
 {
     if !carry {
         return PostIdiv8::Refused { steps: steps + 2 };
     }
     PostIdiv8::Accepted {
-        quotient: with_sign8(negate, quotient),
-        remainder: with_sign8(upper & Width8::TOP != 0, remainder),
+        quotient: with_sign8(negate, results.quotient),
+        remainder: with_sign8(upper & Width8::TOP != 0, results.remainder),
         steps: steps + 10,
     }
 }
@@ -128,22 +123,21 @@ fn with_sign16(negative: bool, magnitude: u16) -> u16
 
 // The remainder takes the sign of the dividend, whose upper half tells it.
 pub fn post_idiv16(
-    remainder: u16,
+    results: Results16,
     upper: u16,
-    quotient: u16,
     carry: bool,
     negate: bool,
     steps: u16,
 ) -> PostIdiv16
     requires { ⌜ steps < 1000 ⌝ }
-    ensures { λ r. ⌜ post16Answer r ≡ postIdiv 16 remainder upper quotient carry negate steps ⌝ }
+    ensures { λ r. ⌜ post16Answer r ≡ postIdiv 16 (results16 results) upper carry negate steps ⌝ }
 {
     if !carry {
         return PostIdiv16::Refused { steps: steps + 2 };
     }
     PostIdiv16::Accepted {
-        quotient: with_sign16(negate, quotient),
-        remainder: with_sign16(upper & Width16::TOP != 0, remainder),
+        quotient: with_sign16(negate, results.quotient),
+        remainder: with_sign16(upper & Width16::TOP != 0, results.remainder),
         steps: steps + 10,
     }
 }

@@ -10,7 +10,7 @@ use Rattle.alu.specs.Sum.{adc, sbb}
 use Rattle.alu.specs.Step.{left, right, step, steps}
 use Rattle.alu.specs.Shift.{leftward, rightward, downward}
 use Rattle.multiply.specs.Multiply.{multiply}
-use Rattle.divide.specs.Cord.{road, noBorrows, lastCompare}
+use Rattle.divide.specs.Cord.{road, tally, lastCompare}
 use Rattle.divide.specs.Divide.{divide}
 use Rattle.bcd.specs.Ascii.{ascii, aaaOf}
 use Rattle.bcd.specs.Decimal.{decimal, daaOf}
@@ -19,5 +19,5 @@ use Rattle.marked.specs.Marked.{Marked, marked}
 use mathlib.Core.Bool.{xor}
 
 pub all-marked : map (λ (m : Marked). m .gives) marked ≡ map (λ (m : Marked). m .says) marked
-unfolding wordOf flagsOf signed fitsSigned wrapped adc sbb left right step steps leftward rightward downward xor road noBorrows lastCompare divide multiply ones onesIn ascii aaaOf decimal daaOf szp
+unfolding wordOf flagsOf signed fitsSigned wrapped adc sbb left right step steps leftward rightward downward xor road tally lastCompare divide multiply ones onesIn ascii aaaOf decimal daaOf szp
 all-marked = refl

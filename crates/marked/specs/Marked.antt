@@ -12,7 +12,7 @@ use Rattle.alu.specs.Sum.{adc, sbb}
 use Rattle.alu.specs.Shift.{shl, rcl}
 use Rattle.multiply.specs.Routines.{Multiplied}
 use Rattle.multiply.specs.Multiply.{multiply}
-use Rattle.divide.specs.Divide.{Divided, accepted, refused, divide}
+use Rattle.divide.specs.Divide.{DivideOutcome, Divided, accepted, refused, divide}
 use Rattle.bcd.specs.Ascii.{aaaOf}
 use Rattle.bcd.specs.Decimal.{daaOf}
 
@@ -42,9 +42,13 @@ abbrev product : Multiplied → List ℕ
 product m = m .product ∷ m .steps ∷ []
 
 -- a divide: status 0, quotient, remainder and steps; or status 6 and steps
+abbrev outcome : DivideOutcome → ℕ → List ℕ
+outcome (accepted r) t = 0 ∷ r .quotient ∷ r .remainder ∷ t ∷ []
+outcome (refused why) t = 6 ∷ t ∷ []
+
+-- that of a divide
 abbrev divided : Divided → List ℕ
-divided (accepted q r f t) = 0 ∷ q ∷ r ∷ t ∷ []
-divided (refused why f t) = 6 ∷ t ∷ []
+divided d = outcome (d .outcome) (d .steps)
 
 -- the list
 abbrev pub marked : List Marked

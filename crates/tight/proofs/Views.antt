@@ -26,9 +26,11 @@ use Rattle.multiply.specs.declared.mul.Product8.{Product8}
 use Rattle.multiply.specs.declared.mul.Product16.{Product16}
 use Rattle.divide.specs.Cord as Cord
 use Rattle.divide.specs.declared.cord.CordAnswer8.{CordAnswer8}
-use Rattle.divide.specs.declared.cord.CordAnswer8.the-variants.{Accepted as cordAccepted8, Refused as cordRefused8}
+use Rattle.divide.specs.declared.cord.CordOutcome8.{CordOutcome8}
+use Rattle.divide.specs.declared.cord.CordOutcome8.the-variants.{Accepted as cordAccepted8, Refused as cordRefused8}
 use Rattle.divide.specs.declared.cord.CordAnswer16.{CordAnswer16}
-use Rattle.divide.specs.declared.cord.CordAnswer16.the-variants.{Accepted as cordAccepted16, Refused as cordRefused16}
+use Rattle.divide.specs.declared.cord.CordOutcome16.{CordOutcome16}
+use Rattle.divide.specs.declared.cord.CordOutcome16.the-variants.{Accepted as cordAccepted16, Refused as cordRefused16}
 use Rattle.divide.specs.Idiv as Idiv
 use Rattle.divide.specs.declared.idiv.PostIdiv8.{PostIdiv8}
 use Rattle.divide.specs.declared.idiv.PostIdiv8.the-variants.{Accepted as postAccepted8, Refused as postRefused8}
@@ -36,14 +38,16 @@ use Rattle.divide.specs.declared.idiv.PostIdiv16.{PostIdiv16}
 use Rattle.divide.specs.declared.idiv.PostIdiv16.the-variants.{Accepted as postAccepted16, Refused as postRefused16}
 use Rattle.divide.specs.Divide as Divide
 use Rattle.divide.specs.declared.div.Divided8.{Divided8}
-use Rattle.divide.specs.declared.div.Divided8.the-variants.{Accepted as dividedAccepted8, Refused as dividedRefused8}
+use Rattle.divide.specs.declared.div.DivideOutcome8.{DivideOutcome8}
+use Rattle.divide.specs.declared.div.DivideOutcome8.the-variants.{Accepted as dividedAccepted8, Refused as dividedRefused8}
 use Rattle.divide.specs.declared.div.Divided16.{Divided16}
-use Rattle.divide.specs.declared.div.Divided16.the-variants.{Accepted as dividedAccepted16, Refused as dividedRefused16}
+use Rattle.divide.specs.declared.div.DivideOutcome16.{DivideOutcome16}
+use Rattle.divide.specs.declared.div.DivideOutcome16.the-variants.{Accepted as dividedAccepted16, Refused as dividedRefused16}
 use Rattle.line.specs.Run.{Done, done}
 use Rattle.alu.specs.Views.{c8, c16, co8, co16, coa8, coa16, step8, step16}
 use Rattle.negate.specs.Views.{negate8, negate16}
 use Rattle.multiply.specs.Views.{halves8, halves16, product8, product16}
-use Rattle.divide.specs.Views.{cord8Answer, cord16Answer, post8Answer, post16Answer, divided8, divided16}
+use Rattle.divide.specs.Views.{cordOutcome8, cordOutcome16, cordAnswer8, cordAnswer16, post8Answer, post16Answer, outcome8, outcome16, divided8, divided16}
 use Rattle.tight.proofs.Law.{Faithful}
 
 pub c8-faithful : Faithful c8
@@ -93,27 +97,35 @@ product16-tight r s b c e =
     let lower : r .lower ≡ s .lower = omega (arith, all, b, c) in
     λ i. record { upper = upper i; lower = lower i; flags = e i .flags; steps = e i .steps }
 
-abbrev cord8Answer-back : Cord.CordAnswer → CordAnswer8
-cord8Answer-back (Cord.accepted q r c l t) = cordAccepted8 q r c l t
-cord8Answer-back (Cord.refused t) = cordRefused8 t
+abbrev cordOutcome8-back : Cord.CordOutcome → CordOutcome8
+cordOutcome8-back (Cord.accepted r) = cordAccepted8 (record { quotient = r .quotient; remainder = r .remainder })
+cordOutcome8-back Cord.refused = cordRefused8
 
-cord8Answer-kept : (a : CordAnswer8) → cord8Answer-back (cord8Answer a) ≡ a
-cord8Answer-kept (cordAccepted8 q r c l t) = refl
-cord8Answer-kept (cordRefused8 t) = refl
+cordOutcome8-kept : (o : CordOutcome8) → cordOutcome8-back (cordOutcome8 o) ≡ o
+cordOutcome8-kept (cordAccepted8 r) = refl
+cordOutcome8-kept cordRefused8 = refl
 
-pub cord8Answer-faithful : Faithful cord8Answer
-cord8Answer-faithful = record { back = cord8Answer-back; kept = cord8Answer-kept }
+pub cordAnswer8-faithful : Faithful cordAnswer8
+cordAnswer8-faithful =
+    record {
+      back = λ (g : Cord.CordAnswer). record { outcome = cordOutcome8-back (g .outcome); carry = g .carry; compared = g .compared; steps = g .steps };
+      kept = λ a. λ i. record { outcome = cordOutcome8-kept (a .outcome) i; carry = a .carry; compared = a .compared; steps = a .steps };
+    }
 
-abbrev cord16Answer-back : Cord.CordAnswer → CordAnswer16
-cord16Answer-back (Cord.accepted q r c l t) = cordAccepted16 q r c l t
-cord16Answer-back (Cord.refused t) = cordRefused16 t
+abbrev cordOutcome16-back : Cord.CordOutcome → CordOutcome16
+cordOutcome16-back (Cord.accepted r) = cordAccepted16 (record { quotient = r .quotient; remainder = r .remainder })
+cordOutcome16-back Cord.refused = cordRefused16
 
-cord16Answer-kept : (a : CordAnswer16) → cord16Answer-back (cord16Answer a) ≡ a
-cord16Answer-kept (cordAccepted16 q r c l t) = refl
-cord16Answer-kept (cordRefused16 t) = refl
+cordOutcome16-kept : (o : CordOutcome16) → cordOutcome16-back (cordOutcome16 o) ≡ o
+cordOutcome16-kept (cordAccepted16 r) = refl
+cordOutcome16-kept cordRefused16 = refl
 
-pub cord16Answer-faithful : Faithful cord16Answer
-cord16Answer-faithful = record { back = cord16Answer-back; kept = cord16Answer-kept }
+pub cordAnswer16-faithful : Faithful cordAnswer16
+cordAnswer16-faithful =
+    record {
+      back = λ (g : Cord.CordAnswer). record { outcome = cordOutcome16-back (g .outcome); carry = g .carry; compared = g .compared; steps = g .steps };
+      kept = λ a. λ i. record { outcome = cordOutcome16-kept (a .outcome) i; carry = a .carry; compared = a .compared; steps = a .steps };
+    }
 
 abbrev post8Answer-back : Idiv.PostAnswer → PostIdiv8
 post8Answer-back (Idiv.accepted q r t) = postAccepted8 q r t
@@ -137,27 +149,35 @@ post16Answer-kept (postRefused16 t) = refl
 pub post16Answer-faithful : Faithful post16Answer
 post16Answer-faithful = record { back = post16Answer-back; kept = post16Answer-kept }
 
-abbrev divided8-back : Divide.Divided → Divided8
-divided8-back (Divide.accepted q r f t) = dividedAccepted8 q r f t
-divided8-back (Divide.refused why f t) = dividedRefused8 why f t
+abbrev outcome8-back : Divide.DivideOutcome → DivideOutcome8
+outcome8-back (Divide.accepted r) = dividedAccepted8 (record { quotient = r .quotient; remainder = r .remainder })
+outcome8-back (Divide.refused why) = dividedRefused8 why
 
-divided8-kept : (a : Divided8) → divided8-back (divided8 a) ≡ a
-divided8-kept (dividedAccepted8 q r f t) = refl
-divided8-kept (dividedRefused8 why f t) = refl
+outcome8-kept : (o : DivideOutcome8) → outcome8-back (outcome8 o) ≡ o
+outcome8-kept (dividedAccepted8 r) = refl
+outcome8-kept (dividedRefused8 why) = refl
 
 pub divided8-faithful : Faithful divided8
-divided8-faithful = record { back = divided8-back; kept = divided8-kept }
+divided8-faithful =
+    record {
+      back = λ (g : Divide.Divided). record { outcome = outcome8-back (g .outcome); flags = g .flags; steps = g .steps };
+      kept = λ d. λ i. record { outcome = outcome8-kept (d .outcome) i; flags = d .flags; steps = d .steps };
+    }
 
-abbrev divided16-back : Divide.Divided → Divided16
-divided16-back (Divide.accepted q r f t) = dividedAccepted16 q r f t
-divided16-back (Divide.refused why f t) = dividedRefused16 why f t
+abbrev outcome16-back : Divide.DivideOutcome → DivideOutcome16
+outcome16-back (Divide.accepted r) = dividedAccepted16 (record { quotient = r .quotient; remainder = r .remainder })
+outcome16-back (Divide.refused why) = dividedRefused16 why
 
-divided16-kept : (a : Divided16) → divided16-back (divided16 a) ≡ a
-divided16-kept (dividedAccepted16 q r f t) = refl
-divided16-kept (dividedRefused16 why f t) = refl
+outcome16-kept : (o : DivideOutcome16) → outcome16-back (outcome16 o) ≡ o
+outcome16-kept (dividedAccepted16 r) = refl
+outcome16-kept (dividedRefused16 why) = refl
 
 pub divided16-faithful : Faithful divided16
-divided16-faithful = record { back = divided16-back; kept = divided16-kept }
+divided16-faithful =
+    record {
+      back = λ (g : Divide.Divided). record { outcome = outcome16-back (g .outcome); flags = g .flags; steps = g .steps };
+      kept = λ d. λ i. record { outcome = outcome16-kept (d .outcome) i; flags = d .flags; steps = d .steps };
+    }
 
 -- what a run leaves: answer bytes, lines and bytes used
 pub done-tight : (b c : List ℕ) (l m u v : ℕ) → done b l u ≡ done c m v → (b ≡ c) × (l ≡ m) × (u ≡ v)

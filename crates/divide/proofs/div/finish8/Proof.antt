@@ -12,7 +12,7 @@ returns : tie.Need-returns
 returns c =
     let told = c .before .before .post .given in
     let a = c .before .before .before .before .args in
-    ap (λ (h : Flags). accepted (told .0 .0) (told .0 .1 .0) h (told .0 .1 .1 .0)) (c .with-co .ensures)
+    ap (λ (h : Flags). record { outcome = accepted (record { quotient = told .0 .0; remainder = told .0 .1 .0 }); flags = h; steps = told .0 .1 .1 .0 }) (c .with-co .ensures)
     ∙ ap (λ (p : PostIdiv8). finished (post8Answer p) (a .compare) (a .flags)) (sym (told .1))
 
 returns-2 : tie.Need-returns-2
