@@ -1,2 +1,1 @@
 pub mod AdjustLaws
-pub mod OverLaws

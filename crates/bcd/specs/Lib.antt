@@ -1,4 +1,3 @@
 pub mod Adjust
 pub mod Ascii
 pub mod Decimal
-pub mod Over

@@ -1,5 +1,4 @@
-// The decimal adjusts, after cpu_808x/bcd.rs of MartyPC: by value, and over a lent register record.
+// The decimal adjusts by value, after cpu_808x/bcd.rs of MartyPC.
 pub mod adjust;
 pub mod ascii;
 pub mod decimal;
-pub mod registers;

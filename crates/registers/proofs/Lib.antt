@@ -1,0 +1,3 @@
+pub mod OverLaws
+mod Thin
+mod ThinBy

@@ -1,0 +1,12 @@
+-- `registers::das_outcome` meets its contract, by the law of every adjust. Assumes nothing.
+use borrow.Author.Needs.{needs}
+use Rattle.bcd.specs.Decimal.{dasOf}
+use Rattle.registers.proofs.OverLaws.{over-is}
+use Rattle.registers.proofs.das_outcome.Statement.{statement}
+use Rattle.registers.proofs.das_outcome.Tie as tie
+
+returns : tie.Need-returns
+returns c = over-is dasOf _ (c .before .before .before .from-word .ensures) (c .before .das .ensures) (c .settled .ensures)
+
+pub das-outcome-spec : {M : Type 1} → statement M
+das-outcome-spec = tie.close (tie.spec (λ c κs. search needs) (λ c κs. search needs) (λ c κs. search needs) (λ c κs. search needs) returns)
