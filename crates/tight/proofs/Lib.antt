@@ -1,2 +1,14 @@
 pub mod Law
 pub mod Views
+pub mod OfFlags
+pub mod OfAlu
+pub mod OfNegate
+pub mod OfMultiply
+pub mod OfDivide
+pub mod OfBcd
+pub mod OfRequest
+pub mod OfAnswer
+pub mod OfText
+pub mod OfLine
+pub mod OfBlocks
+pub mod OfEmbed

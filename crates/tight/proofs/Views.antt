@@ -1,7 +1,6 @@
 -- Each view of a value of one width as one over n loses nothing. Assumes nothing.
 use mathlib.Core.Path.{_≡_, refl, ap}
-use mathlib.Core.List.{List}
-use Prim.Native.Nat.{ℕ, _<_}
+use Prim.Native.Nat.{_<_}
 use native.Mathlib.Omega.{arith}
 use Rattle.alu.specs.Result.{ResultC}
 use Rattle.alu.specs.declared.result.ResultC8.{ResultC8}
@@ -43,7 +42,6 @@ use Rattle.divide.specs.declared.div.DivideOutcome8.the-variants.{Accepted as d
 use Rattle.divide.specs.declared.div.Divided16.{Divided16}
 use Rattle.divide.specs.declared.div.DivideOutcome16.{DivideOutcome16}
 use Rattle.divide.specs.declared.div.DivideOutcome16.the-variants.{Accepted as dividedAccepted16, Refused as dividedRefused16}
-use Rattle.line.specs.Run.{Done, done}
 use Rattle.alu.specs.Views.{c8, c16, co8, co16, coa8, coa16, step8, step16}
 use Rattle.negate.specs.Views.{negate8, negate16}
 use Rattle.multiply.specs.Views.{halves8, halves16, product8, product16}
@@ -178,7 +176,3 @@ divided16-faithful =
       back = λ (g : Divide.Divided). record { outcome = outcome16-back (g .outcome); flags = g .flags; steps = g .steps };
       kept = λ d. λ i. record { outcome = outcome16-kept (d .outcome) i; flags = d .flags; steps = d .steps };
     }
-
--- what a run leaves: answer bytes, lines and bytes used
-pub done-tight : (b c : List ℕ) (l m u v : ℕ) → done b l u ≡ done c m v → (b ≡ c) × (l ≡ m) × (u ≡ v)
-done-tight b c l m u v e = (ap (λ (d : Done). d .bytes) e, ap (λ (d : Done). d .lines) e, ap (λ (d : Done). d .used) e)

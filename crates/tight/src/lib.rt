@@ -1,2 +1,2 @@
-// No code: any two answers that a contract allows are equal. docs/TIGHTNESS.md says which law covers
-// which function, and lists the exceptions.
+// No code: the contract of each public function of the libraries allows one answer alone. docs/TIGHTNESS.md
+// says how a function's law is named, and lists the exceptions.

@@ -1,0 +1,14 @@
+-- Each public function of `embed` has a tight contract. Assumes nothing.
+use Rattle.embed.proofs as lib
+use Rattle.tight.specs.Tight.{Tight}
+use Rattle.tight.proofs.Law.{plainly, same}
+
+module _ {M : Type 1} where
+  pub lib-hatchyarn-ask : Tight M lib.hatchyarn_ask.signature lib.hatchyarn_ask.clauses
+  lib-hatchyarn-ask c g r s = plainly (c .𝓤) (λ e d. (same (e .0) (d .0), λ i. (tt, (tt, (tt, (tt, (tt, (same (e .1) (d .1) i, tt))))))))
+
+  pub lib-hatchyarn-line : Tight M lib.hatchyarn_line.signature lib.hatchyarn_line.clauses
+  lib-hatchyarn-line c g r s = plainly (c .𝓤) (λ e d. (same (e .0) (d .0), λ i. (tt, (same (e .1) (d .1) i, tt))))
+
+  pub lib-hatchyarn-run : Tight M lib.hatchyarn_run.signature lib.hatchyarn_run.clauses
+  lib-hatchyarn-run c g r s = plainly (c .𝓤) (λ e d. let t = same e d in (λ i. t i .lines, λ i. (tt, (t i .bytes, (tt, (t i .used, tt))))))
