@@ -3,7 +3,6 @@ use mathlib.Core.Path.{refl}
 use Rattle.bcd.proofs.adjust
 use Rattle.bcd.proofs.ascii
 use Rattle.bcd.proofs.decimal
-use Rattle.bcd.proofs.registers
 use Rattle.tight.specs.Tight.{Tight}
 use Rattle.tight.proofs.Law.{plainly, same}
 
@@ -34,18 +33,3 @@ module _ {M : Type 1} where
 
   pub decimal-das : Tight M decimal.das.signature decimal.das.clauses
   decimal-das c g r s = plainly (c .𝓤) (λ e d. (same e d, refl))
-
-  pub registers-aaa : Tight M registers.aaa.signature registers.aaa.clauses
-  registers-aaa c g r s = plainly (c .𝓤) (λ e d. (same (e .0) (d .0), λ i. (same (e .1) (d .1) i, tt)))
-
-  pub registers-aas : Tight M registers.aas.signature registers.aas.clauses
-  registers-aas c g r s = plainly (c .𝓤) (λ e d. (same (e .0) (d .0), λ i. (same (e .1) (d .1) i, tt)))
-
-  pub registers-daa : Tight M registers.daa.signature registers.daa.clauses
-  registers-daa c g r s = plainly (c .𝓤) (λ e d. (same (e .0) (d .0), λ i. (same (e .1) (d .1) i, tt)))
-
-  pub registers-das : Tight M registers.das.signature registers.das.clauses
-  registers-das c g r s = plainly (c .𝓤) (λ e d. (same (e .0) (d .0), λ i. (same (e .1) (d .1) i, tt)))
-
-  pub registers-aad : Tight M registers.aad.signature registers.aad.clauses
-  registers-aad c g r s = plainly (c .𝓤) (λ e d. (same (e .0) (d .0), λ i. (same (e .1) (d .1) i, (tt, tt))))
