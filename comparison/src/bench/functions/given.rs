@@ -53,19 +53,18 @@ pub struct Done<R, F> {
 }
 
 /// The port's `Divided8` and `Divided16`.
+pub type Divided<T> = Done<DivideOutcome<T>, Flags>;
+
 #[repr(u8)]
-pub enum Divided<T> {
-    Accepted {
-        quotient: T,
-        remainder: T,
-        flags: Flags,
-        steps: u16,
-    },
-    Refused {
-        refusal: Refusal,
-        flags: Flags,
-        steps: u16,
-    },
+pub enum DivideOutcome<T> {
+    Accepted(Results<T>),
+    Refused(Refusal),
+}
+
+#[repr(C)]
+pub struct Results<T> {
+    pub quotient: T,
+    pub remainder: T,
 }
 
 #[repr(u8)]

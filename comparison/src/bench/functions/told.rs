@@ -1,6 +1,8 @@
 //! What a function wrote, as the numbers of an answer, so that the two sides can be compared.
 
-use super::given::{Divided, Done, Flags, Halves, ResultC, ResultCo, ResultCoa};
+use super::given::{
+    DivideOutcome, Divided, Done, Flags, Halves, ResultC, ResultCo, ResultCoa, Results,
+};
 use crate::sides::Numbers;
 
 pub trait Told {
@@ -51,14 +53,12 @@ impl<T: Into<u16>> Told for Done<Result<(T, T), bool>, u16> {
 
 impl<T: Into<u16>> Told for Divided<T> {
     fn told(self) -> Numbers {
-        match self {
-            Divided::Accepted {
+        match self.given {
+            DivideOutcome::Accepted(Results {
                 quotient,
                 remainder,
-                flags,
-                steps,
-            } => accepted(flags, steps, quotient, remainder),
-            Divided::Refused { steps, .. } => refused(steps),
+            }) => accepted(self.flags, self.steps, quotient, remainder),
+            DivideOutcome::Refused(_) => refused(self.steps),
         }
     }
 }
