@@ -7,4 +7,5 @@ pub mod DivLaws
 pub mod AfterPre
 pub mod Logged
 pub mod Manual
+pub mod Answers
 pub mod Demand3

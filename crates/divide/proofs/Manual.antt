@@ -1,21 +1,22 @@
--- The manual's division determines quotient and remainder, and those of the definitions are they. An unsigned divide is refused where the
--- manual says so: the divisor is 0, or the quotient does not fit. Assumes nothing.
+-- The manual's division determines quotient and remainder, and those of the definitions are they. What the chart accepts is what the manual
+-- does: the divisor is not 0, and the quotient is in range. Assumes nothing.
 use mathlib.Core.Path.{_≡_, refl, sym, ap, ap₂, subst, subst⁻¹, _∙_}
-use mathlib.Core.Bool.{Bool, true, false, not, xor, _&&_}
+use mathlib.Core.Bool.{Bool, true, false, not, xor, _&&_, and-true}
 use mathlib.Core.Logic.{_⊎_, inl, inr}
 use Prim.Native.Nat.{ℕ, zero, suc, _+_, _-_, _*_, _/_, _%_, _^_, _≤_, _<_}
 use native.Mathlib.Nat.{div-add-mod', mod-lt}
 use native.Mathlib.Omega.{arith}
 use lib.Arith.{digits-div, digits-mod}
-use lib.Dec.{eqb, ltb}
+use lib.Dec.{leb, ltb, eqb, leb·suc-suc}
 use lib.IntN.{ℤ, pos, negsuc, negℤ, natAbs, _+ℤ_, _*ℤ_, negℤ-+ℤ}
 use lib.Pow.{pow-pos}
-use lib.Signed.{quotZ, remZ}
-use borrow.Author.Tests.{ltb-true, ltb-false, le-ltb, ne-eqb}
-use Rattle.flags.proofs.SignedLaws.{Diff, above, below, diff-add, diff-neg}
+use lib.Signed.{quotZ, remZ, leZ}
+use borrow.Author.Tests.{leb-true, leb-false, ltb-true, ltb-false, le-leb, lt-leb, lt-ltb, le-ltb, ne-eqb}
+use Rattle.flags.specs.Numbers.{top}
+use Rattle.flags.proofs.SignedLaws.{Diff, above, below, diff-add, diff-neg, same-test}
 use Rattle.flags.proofs.SignLaws.{signOf, abs-sign, mul-sign, quot-sign, rem-sign}
-use Rattle.divide.specs.Divide.{accepts}
-use Rattle.divide.specs.Manual.{negative, Division}
+use Rattle.divide.specs.Divide.{accepts, quotientOf}
+use Rattle.divide.specs.Manual.{negative, Division, largest, inRange}
 use Rattle.divide.proofs.DivLaws.{below as quotient-below}
 
 -- every number is its sign and its magnitude
@@ -176,14 +177,39 @@ division-holds z w pos-w = record { whole = whole; smaller = smaller; sign = sig
     sign : (natAbs (remZ z w) ≡ 0) ⊎ (negative (remZ z w) ≡ negative z)
     sign = subst⁻¹ (λ (r : ℤ). (natAbs r ≡ 0) ⊎ (negative r ≡ negative z)) remainder (sign-kept (negative z) (natAbs z % natAbs w))
 
--- ---- an unsigned divide, by the chart and by the manual
+-- ---- the manual's range of quotients, and what is refused by it
 
-pub unsigned-manual : (n d b : ℕ) → accepts n false d b ≡ not (eqb b 0) && ltb (d / b) (2 ^ n)
-unsigned-manual n d zero = le-ltb (d / 2 ^ n) 0 (omega arith)
-unsigned-manual n d (suc b) = rw (ne-eqb (suc b) 0 (λ e. omega arith)) (by (ltb (d / 2 ^ n) (suc b)) (ltb (d / suc b) (2 ^ n)) refl refl)
+-- at most one less is below
+below-next : (k m t : ℕ) → suc m ≡ t → leb k m ≡ ltb k t
+below-next k m t e = same-test (leb k m) (ltb k t) (λ h. lt-ltb k t (omega (arith, leb-true k m h))) (λ h. le-ltb k t (omega (arith, leb-false k m h)))
+
+-- from -m to m are the numbers of a magnitude of at most m
+from-minus : (m : ℕ) (z : ℤ) → leZ (negℤ (pos m)) z && leZ z (pos m) ≡ leb (natAbs z) m
+from-minus zero (pos k) = rw (le-leb 0 k (omega arith))
+from-minus zero (negsuc k) = sym (lt-leb (suc k) 0 (omega arith))
+from-minus (suc m) (pos k) = refl
+from-minus (suc m) (negsuc k) = and-true (leb k m) ∙ sym (leb·suc-suc k m)
+
+-- a signed quotient is in range if its magnitude is below the top bit
+pub range-signed : (n : ℕ) (z : ℤ) → inRange n true z ≡ ltb (natAbs z) (top n)
+range-signed n z = from-minus (largest n true) z ∙ below-next (natAbs z) (largest n true) (top n) (omega (arith, pow-pos (n - 1)))
+
+-- another if it fits n bits
+pub range-unsigned : (n k : ℕ) → inRange n false (pos k) ≡ ltb k (2 ^ n)
+range-unsigned n k = rw (le-leb 0 k (omega arith)) (below-next k (largest n false) (2 ^ n) (omega (arith, pow-pos n)))
+
+-- the divisor is above the dividend's upper half exactly if it is not 0 and the quotient fits
+quotient-fits : (n d b : ℕ) → ltb (d / 2 ^ n) b ≡ not (eqb b 0) && ltb (d / b) (2 ^ n)
+quotient-fits n d zero = le-ltb (d / 2 ^ n) 0 (omega arith)
+quotient-fits n d (suc b) = rw (ne-eqb (suc b) 0 (λ e. omega arith)) (by (ltb (d / 2 ^ n) (suc b)) (ltb (d / suc b) (2 ^ n)) refl refl)
   where
     by : (x y : Bool) → ltb (d / 2 ^ n) (suc b) ≡ x → ltb (d / suc b) (2 ^ n) ≡ y → x ≡ y
     by true true e f = refl
     by false false e f = refl
     by true false e f = absurd (omega (arith, quotient-below d (suc b) (2 ^ n) (pow-pos n) (ltb-true _ _ e), ltb-false (d / suc b) (2 ^ n) f))
     by false true e f = absurd (omega (arith, quotient-below d (2 ^ n) (suc b) (omega arith) (ltb-true _ _ f), ltb-false (d / 2 ^ n) (suc b) e))
+
+-- a divide is accepted exactly if the divisor is not 0 and the quotient is in range, signed or not
+pub manual-accepts : (n : ℕ) (s : Bool) (d b : ℕ) → accepts n s d b ≡ not (eqb b 0) && inRange n s (quotientOf n s d b)
+manual-accepts n true d b = ap (λ (x : Bool). not (eqb b 0) && x) (sym (range-signed n (quotientOf n true d b)))
+manual-accepts n false d b = quotient-fits n d b ∙ ap (λ (x : Bool). not (eqb b 0) && x) (sym (range-unsigned n (d / b)))

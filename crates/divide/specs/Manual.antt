@@ -1,9 +1,16 @@
--- Intel's manual on division, over the integers. Assumes nothing.
+-- Intel's 8086 Family User's Manual, chapter 2, 'Instruction Set', arithmetic instructions: DIV, of unsigned numbers, and IDIV, of signed ones.
+--
+-- A dividend of 2n bits is divided by a divisor of n bits into a quotient and a remainder of n bits. A quotient that is not whole is cut
+-- towards 0, and the remainder of IDIV has the dividend's sign. The quotient of DIV is at most FF, for words FFFF; that of IDIV is from -127
+-- to 127, for words from -32,767 to 32,767. Beyond that, as for a divisor of 0, an interrupt of type 0 is made, and both are undefined.
+-- Assumes nothing.
 use mathlib.Core.Path.{_≡_}
-use mathlib.Core.Bool.{Bool, true, false}
+use mathlib.Core.Bool.{Bool, true, false, _&&_}
 use mathlib.Core.Logic.{_⊎_}
-use Prim.Native.Nat.{_<_}
-use lib.IntN.{ℤ, pos, negsuc, natAbs, _+ℤ_, _*ℤ_}
+use Prim.Native.Nat.{ℕ, _-_, _^_, _<_}
+use lib.IntN.{ℤ, pos, negsuc, negℤ, natAbs, _+ℤ_, _*ℤ_}
+use lib.Signed.{leZ}
+use Rattle.divide.specs.Divide.{Divided, accepted, refused}
 
 -- a number below 0
 abbrev pub negative : ℤ → Bool
@@ -16,3 +23,22 @@ pub record Division (z w q r : ℤ) : Type 0 where
   pub whole : q *ℤ w +ℤ r ≡ z
   pub smaller : natAbs r < natAbs w
   pub sign : (natAbs r ≡ 0) ⊎ (negative r ≡ negative z)
+
+-- the largest quotient, of IDIV where the numbers are signed
+abbrev pub largest : ℕ → Bool → ℕ
+largest n false = 2 ^ n - 1
+largest n true = 2 ^ (n - 1) - 1
+
+-- the least
+abbrev pub least : ℕ → Bool → ℤ
+least n false = pos 0
+least n true = negℤ (pos (largest n true))
+
+-- a quotient from the least to the largest
+abbrev pub inRange : ℕ → Bool → ℤ → Bool
+inRange n s q = leZ (least n s) q && leZ q (pos (largest n s))
+
+-- where the chip makes the interrupt, the answer here is a refusal
+abbrev pub isRefused : Divided → Bool
+isRefused (accepted q r f t) = false
+isRefused (refused why f t) = true

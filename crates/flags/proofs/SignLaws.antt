@@ -7,10 +7,10 @@ use native.Mathlib.Nat.{le-trans, mod-eq-of-lt, mod-self, zero-mul, mul-zero, ze
 use native.Mathlib.Omega.{arith}
 use lib.IntN.{ℤ, pos, negsuc, negℤ, natAbs, subℕ, _*ℤ_}
 use lib.Signed.{quotZ, remZ}
-use lib.Pow.{pow-add, pow-pos}
+use lib.Pow.{pow-pos}
 use borrow.Author.Tests.{lt-ltb, leb-true, leb-false, le-leb, lt-leb}
 use Rattle.flags.specs.Numbers.{top, topSet, signed, magnitude, wrapped, negated}
-use Rattle.flags.proofs.Powers.{top-twice}
+use Rattle.flags.proofs.Powers.{top-twice, top-double}
 use Rattle.flags.proofs.SignedLaws.{TopIs, top-is, same-test}
 
 -- a magnitude with a sign, true for negative
@@ -81,6 +81,17 @@ wrapped-sign n true zero h = mod-eq-of-lt (pow-pos n) ∙ sym (ap (λ (k : ℕ).
 wrapped-sign n true (suc m) h =
     ap (λ (k : ℕ). 2 ^ n - 1 - k) (mod-eq-of-lt (omega arith)) ∙ omega arith ∙ sym (mod-eq-of-lt (omega arith))
 
+-- a number whose magnitude is below the top bit is what its n bits stand for
+pub signed-wrapped : (n : ℕ) (z : ℤ) → 0 < n → natAbs z < top n → signed n (wrapped n z) ≡ z
+unfolding signed wrapped
+signed-wrapped n (pos k) hn h =
+    let kept : k % 2 ^ n ≡ k = mod-eq-of-lt (omega (arith, top-twice n hn)) in
+    rw (kept, lt-leb (top n) k h)
+signed-wrapped n (negsuc k) hn h =
+    let kept : k % 2 ^ n ≡ k = mod-eq-of-lt (omega (arith, top-twice n hn)) in
+    let high : top n ≤ 2 ^ n - 1 - k = omega (arith, top-twice n hn) in
+    rw (kept, le-leb (top n) (2 ^ n - 1 - k) high, lt-ltb (2 ^ n - 1 - k) (2 ^ n) (omega arith)) (ap negsuc (omega (arith, top-twice n hn)))
+
 -- the magnitude of n bits is below 2 ^ n, and of signed ones at most the top bit
 pub plain-lt : (n x : ℕ) → 0 < n → x < 2 ^ n → (plain n x ≤ top n) × (plain n x < 2 ^ n)
 plain-lt n x hn hx = by (topSet n x) (top-is n x)
@@ -135,14 +146,7 @@ pub top-upper : (n d : ℕ) → 0 < n → topSet n (d / 2 ^ n) ≡ topSet (n + n
 top-upper n d hn =
     same-test (topSet n (d / 2 ^ n)) (topSet (n + n) d)
     (λ t. le-leb (top (n + n)) d (at-least (leb-true (top n) (d / 2 ^ n) t)))
-    (λ t. lt-leb (top (n + n)) d (rw tops (div-lt-iff-lt-mul (pow-pos n) .0 (leb-false (top n) (d / 2 ^ n) t))))
+    (λ t. lt-leb (top (n + n)) d (rw (top-double n hn) (div-lt-iff-lt-mul (pow-pos n) .0 (leb-false (top n) (d / 2 ^ n) t))))
   where
-    tops : top (n + n) ≡ top n * 2 ^ n
-    tops =
-        let a = top-twice n hn in
-        let b = top-twice (n + n) (omega arith) in
-        let c : 2 ^ (n + n) ≡ top n * 2 * 2 ^ n = pow-add 2 n n ∙ ap (λ (x : ℕ). x * 2 ^ n) (sym a) in
-        omega arith
-
     at-least : top n ≤ d / 2 ^ n → top (n + n) ≤ d
-    at-least h = rw tops (le-trans (mul-le-mul-right (2 ^ n) h) (omega (arith, div-add-mod' d (2 ^ n))))
+    at-least h = rw (top-double n hn) (le-trans (mul-le-mul-right (2 ^ n) h) (omega (arith, div-add-mod' d (2 ^ n))))

@@ -118,11 +118,11 @@ module _ (n : ℕ) (rep : Bool) (x y : ℕ) (hn : 0 < n) (hx : x < 2 ^ n) (hy : 
   abbrev pub size : ℕ
   size = plain n x * plain n y
 
-  size-lt : size < top n * 2 ^ n
+  pub size-lt : size < top n * 2 ^ n
   size-lt =
       lt-of-le-of-lt (mul-le-mul (plain-lt n x hn hx .0) (plain-lt n y hn hy .0)) (mul-lt-mul-of-pos-left (omega (arith, top-twice n hn, pow-pos (n - 1))) (pow-pos (n - 1)))
 
-  productValue-is : productValue n true rep x y ≡ signOf (negates n rep x y) size
+  pub productValue-is : productValue n true rep x y ≡ signOf (negates n rep x y) size
   unfolding xor
   productValue-is =
       ap (λ (z : ℤ). cond rep (negℤ z) z) (ap₂ (λ (v w : ℤ). v *ℤ w) (signed-by n x hx) (signed-by n y hy) ∙ mul-sign (topSet n x) (topSet n y) (plain n x) (plain n y))

@@ -1,3 +1,4 @@
 pub mod CorxLaws
 pub mod CarryLaws
 pub mod MulLaws
+pub mod Answers

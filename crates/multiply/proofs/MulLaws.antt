@@ -3,19 +3,18 @@
 use mathlib.Core.Path.{_≡_, refl, sym, ap, ap₂, _∙_}
 use mathlib.Core.Bool.{Bool, true, false, not, cond, xor}
 use Prim.Native.Nat.{ℕ, _+_, _-_, _*_, _/_, _%_, _^_, _≤_, _<_}
-use native.Mathlib.Nat.{le-of-lt, mul-comm, mul-le-mul-left, mul-lt-mul-of-pos-right, div-add-mod'}
+use native.Mathlib.Nat.{mul-comm, div-add-mod'}
 use native.Mathlib.Omega.{arith}
 use lib.Bits.{bitAnd}
 use lib.Count.{ones, ones-le}
 use lib.Dec.{leb, eqb}
 use lib.IntN.{negℤ, natAbs}
-use lib.Pow.{pow-add, pow-pos}
 use borrow.Author.Tests.{leb-true, leb-false, eq-eqb, ne-eqb, lt-leb}
 use Rattle.flags.specs.Numbers.{top, topSet, signed, magnitude, wrapped, negated}
 use Rattle.flags.specs.Word.{setCO, setCOA}
 use Rattle.flags.specs.Szp.{szp}
 use Rattle.flags.specs.declared.word.Flags.{Flags}
-use Rattle.flags.proofs.Powers.{top-twice}
+use Rattle.flags.proofs.Powers.{top-twice, product-lt}
 use Rattle.flags.proofs.Masks.{mask-top, top-masked, top-unmasked}
 use Rattle.flags.proofs.SignedLaws.{TopIs, top-is, same-test}
 use Rattle.flags.proofs.SignLaws.{signOf, plain, signed-by, abs-sign, wrapped-sign, plain-by, xor-true, xor-false}
@@ -175,12 +174,9 @@ module _ (n : ℕ) (rep : Bool) (x y : ℕ) (flags : Flags) (hn : 0 < n) (hx : x
       bits : ℕ
       bits = cond rep (negated (n + n) (y * x)) (y * x)
 
-      small : x * y < 2 ^ (n + n)
-      small = omega (arith, pow-add 2 n n, mul-le-mul-left x (le-of-lt hy), mul-lt-mul-of-pos-right hx (pow-pos n))
-
       by : (s : Bool) → wrapped (n + n) (cond s (negℤ (signOf false (x * y))) (signOf false (x * y))) ≡ cond s (negated (n + n) (x * y)) (x * y)
-      by true = wrapped-sign (n + n) true (x * y) small
-      by false = wrapped-sign (n + n) false (x * y) small
+      by true = wrapped-sign (n + n) true (x * y) (product-lt n hx hy)
+      by false = wrapped-sign (n + n) false (x * y) (product-lt n hx hy)
 
       same : bits ≡ productOf n false rep x y
       same = ap (λ (k : ℕ). cond rep (negated (n + n) k) k) (mul-comm y x) ∙ sym (by rep)
