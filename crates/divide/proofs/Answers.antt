@@ -1,6 +1,6 @@
 -- The manual on what a divide answers: n bits, read as a number that is signed or not. Assumes nothing.
-use mathlib.Core.Path.{_≡_, refl, sym, ap, subst⁻¹, _∙_}
-use mathlib.Core.Bool.{Bool, true, false, not, cond, _&&_, _||_, and-false, true≢false, false≢true, and-eq-true-iff}
+use mathlib.Core.Path.{_≡_, refl, sym, ap, _∙_}
+use mathlib.Core.Bool.{Bool, true, false, not, cond, _&&_, _||_, true≢false, false≢true, and-eq-true-iff}
 use Prim.Native.Nat.{ℕ, _+_, _-_, _/_, _%_, _^_, _<_}
 use native.Mathlib.Nat.{mod-lt}
 use native.Mathlib.Omega.{arith}
@@ -10,7 +10,7 @@ use borrow.Author.Tests.{ltb-true, lt-ltb, eqb-false, not-true}
 use Rattle.flags.specs.Numbers.{top, topSet, valued, magnitude, wrapped}
 use Rattle.flags.specs.declared.word.Flags.{Flags}
 use Rattle.flags.proofs.SignLaws.{magnitude-plain, plain-lt, signed-wrapped, wrapped-sign}
-use Rattle.divide.specs.Divide.{accepted, accepts, quotientOf, remainderOf, divide}
+use Rattle.divide.specs.Divide.{accepted, accepts, quotientOf, remainderOf, quotientReturned, divide}
 use Rattle.divide.specs.Manual.{Division, inRange, isRefused}
 use Rattle.divide.proofs.Manual.{division-holds, range-signed, range-unsigned, manual-accepts}
 
@@ -27,47 +27,49 @@ manual-refuses n s rep d b f = by (accepts n s d b) refl ∙ ap not (manual-acce
     either true y = refl
     either false y = refl
 
--- ---- a number in the manual's range is what its n bits stand for
+-- without REP the quotient is returned as it is
+pub without-rep : (s : Bool) (q : ℤ) → quotientReturned s false q ≡ q
+without-rep true q = refl
+without-rep false q = refl
 
+-- a number in the manual's range is what its n bits stand for
 back : (n : ℕ) (s : Bool) (z : ℤ) → 0 < n → inRange n s z ≡ true → valued s n (wrapped n z) ≡ z
 back n true z hn e = signed-wrapped n z hn (ltb-true (natAbs z) (top n) (sym (range-signed n z) ∙ e))
 back n false (pos k) hn e = ap pos (wrapped-sign n false k (ltb-true k (2 ^ n) (sym (range-unsigned n k) ∙ e)))
 back n false (negsuc k) hn e = absurd (false≢true e)
 
--- ---- quotient and remainder
+-- a divisor that is not 0 has a magnitude
+some : (n : ℕ) (s : Bool) (b : ℕ) → b < 2 ^ n → (b ≡ 0 → ⊥) → 0 < magnitude s n b
+some n false b hb h = omega arith
+some n true b hb h = rw (magnitude-plain n b hb) (by (topSet n b))
+  where
+    by : (t : Bool) → 0 < cond t (2 ^ n - b) b
+    by true = omega arith
+    by false = omega arith
 
-module _ (n : ℕ) (s : Bool) (d b : ℕ) (hn : 0 < n) (hb : b < 2 ^ n) where
-  -- a divisor that is not 0 has a magnitude
-  some : (s : Bool) → (b ≡ 0 → ⊥) → 0 < magnitude s n b
-  some false h = omega arith
-  some true h = rw (magnitude-plain n b hb) (by (topSet n b))
+-- a remainder is smaller than the divisor, so that it is in range too
+rest-in-range : (n : ℕ) (s : Bool) (d b : ℕ) → 0 < n → b < 2 ^ n → 0 < magnitude s n b → inRange n s (remainderOf n s d b) ≡ true
+rest-in-range n true d b hn hb h =
+    let small = division-holds (valued true (n + n) d) (valued true n b) h .smaller in
+    range-signed n (remainderOf n true d b) ∙ lt-ltb _ (top n) (omega (arith, small, magnitude-plain n b hb, plain-lt n b hn hb))
+rest-in-range n false d b hn hb h = range-unsigned n (d % b) ∙ lt-ltb (d % b) (2 ^ n) (omega (arith, mod-lt d h))
+
+-- a divide without REP that is accepted
+module _ (n : ℕ) (s : Bool) (d b : ℕ) (f : Flags) {q r : ℕ} {g : Flags} {t : ℕ} (e : divide n s false d b f ≡ accepted q r g t) where
+  -- the bits that are answered
+  answered : (accepts n s d b ≡ true) × (q ≡ wrapped n (quotientOf n s d b)) × (r ≡ wrapped n (remainderOf n s d b))
+  unfolding divide
+  answered = by (accepts n s d b) refl
     where
-      by : (t : Bool) → 0 < cond t (2 ^ n - b) b
-      by true = omega arith
-      by false = omega arith
+      by : (c : Bool) → accepts n s d b ≡ c → (c ≡ true) × (q ≡ wrapped n (quotientOf n s d b)) × (r ≡ wrapped n (remainderOf n s d b))
+      by true x = let e′ = rw (x, without-rep s (quotientOf n s d b)) at e in (refl, cc, cc)
+      by false x = let e′ = rw x at e in absurd (true≢false (ap isRefused e′))
 
-  -- a remainder is smaller than a divisor of n bits, and in range too
-  rest-in-range : (s : Bool) → 0 < magnitude s n b → inRange n s (remainderOf n s d b) ≡ true
-  rest-in-range true h =
-      let small = division-holds (valued true (n + n) d) (valued true n b) h .smaller in
-      range-signed n (remainderOf n true d b) ∙ lt-ltb _ (top n) (omega (arith, small, magnitude-plain n b hb, plain-lt n b hn hb))
-  rest-in-range false h = range-unsigned n (d % b) ∙ lt-ltb (d % b) (2 ^ n) (omega (arith, mod-lt d h))
-
-  module _ (f : Flags) {q r : ℕ} {g : Flags} {t : ℕ} (e : divide n s false d b f ≡ accepted q r g t) where
-    -- the bits that are answered
-    answered : (accepts n s d b ≡ true) × (q ≡ wrapped n (quotientOf n s d b)) × (r ≡ wrapped n (remainderOf n s d b))
-    unfolding divide
-    answered = by (accepts n s d b) refl
-      where
-        by : (c : Bool) → accepts n s d b ≡ c → (c ≡ true) × (q ≡ wrapped n (quotientOf n s d b)) × (r ≡ wrapped n (remainderOf n s d b))
-        by true x = let e′ = rw (x, and-false s) at e in (refl, cc, cc)
-        by false x = let e′ = rw x at e in absurd (true≢false (ap isRefused e′))
-
-    -- read as numbers of n bits, they are quotient and remainder of the manual's division
-    pub manual-divides : Division (valued s (n + n) d) (valued s n b) (valued s n q) (valued s n r)
-    manual-divides =
-        let ok = and-eq-true-iff (not (eqb b 0)) (inRange n s (quotientOf n s d b)) .0 (sym (manual-accepts n s d b) ∙ answered .0) in
-        let there = some s (eqb-false b 0 (not-true (eqb b 0) (ok .0))) in
-        let quotient : valued s n q ≡ quotientOf n s d b = ap (valued s n) (answered .1) ∙ back n s (quotientOf n s d b) hn (ok .1) in
-        let remainder : valued s n r ≡ remainderOf n s d b = ap (valued s n) (answered .2) ∙ back n s (remainderOf n s d b) hn (rest-in-range s there) in
-        rw (quotient, remainder) (division-holds (valued s (n + n) d) (valued s n b) there)
+  -- its quotient and its remainder, read as numbers of n bits, are those of the manual's division, signed or not
+  pub manual-divides : 0 < n → b < 2 ^ n → Division (valued s (n + n) d) (valued s n b) (valued s n q) (valued s n r)
+  manual-divides hn hb =
+      let ok = and-eq-true-iff (not (eqb b 0)) (inRange n s (quotientOf n s d b)) .0 (sym (manual-accepts n s d b) ∙ answered .0) in
+      let there = some n s b hb (eqb-false b 0 (not-true (eqb b 0) (ok .0))) in
+      let quotient : valued s n q ≡ quotientOf n s d b = ap (valued s n) (answered .1) ∙ back n s (quotientOf n s d b) hn (ok .1) in
+      let remainder : valued s n r ≡ remainderOf n s d b = ap (valued s n) (answered .2) ∙ back n s (remainderOf n s d b) hn (rest-in-range n s d b hn hb there) in
+      rw (quotient, remainder) (division-holds (valued s (n + n) d) (valued s n b) there)

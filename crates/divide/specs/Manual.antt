@@ -1,9 +1,10 @@
--- Intel's 8086 Family User's Manual, chapter 2, 'Instruction Set', arithmetic instructions: DIV, of unsigned numbers, and IDIV, of signed ones.
+-- Intel's 8086 Family User's Manual (October 1979), section 2.7 'Instruction Set', arithmetic instructions: DIV, of unsigned numbers, and
+-- IDIV, of signed ones.
 --
 -- A dividend of 2n bits is divided by a divisor of n bits into a quotient and a remainder of n bits. A quotient that is not whole is cut
 -- towards 0, and the remainder of IDIV has the dividend's sign. The quotient of DIV is at most FF, for words FFFF; that of IDIV is from -127
--- to 127, for words from -32,767 to 32,767. Beyond that, as for a divisor of 0, an interrupt of type 0 is made, and both are undefined.
--- Assumes nothing.
+-- to 127, for words from -32,767 to 32,767. Beyond that, as for a divisor of 0, there is an interrupt of type 0, and neither quotient nor
+-- remainder is defined. The flags never are. Assumes nothing.
 use mathlib.Core.Path.{_≡_}
 use mathlib.Core.Bool.{Bool, true, false, _&&_}
 use mathlib.Core.Logic.{_⊎_}
@@ -24,12 +25,12 @@ pub record Division (z w q r : ℤ) : Type 0 where
   pub smaller : natAbs r < natAbs w
   pub sign : (natAbs r ≡ 0) ⊎ (negative r ≡ negative z)
 
--- the largest quotient, of IDIV where the numbers are signed
+-- the largest quotient of DIV, and of IDIV
 abbrev pub largest : ℕ → Bool → ℕ
 largest n false = 2 ^ n - 1
 largest n true = 2 ^ (n - 1) - 1
 
--- the least
+-- and the least
 abbrev pub least : ℕ → Bool → ℤ
 least n false = pos 0
 least n true = negℤ (pos (largest n true))
@@ -38,7 +39,7 @@ least n true = negℤ (pos (largest n true))
 abbrev pub inRange : ℕ → Bool → ℤ → Bool
 inRange n s q = leZ (least n s) q && leZ q (pos (largest n s))
 
--- where the chip makes the interrupt, the answer here is a refusal
+-- where the chip makes the interrupt, a divide here answers a refusal
 abbrev pub isRefused : Divided → Bool
 isRefused (accepted q r f t) = false
 isRefused (refused why f t) = true
