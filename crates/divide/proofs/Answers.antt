@@ -11,15 +11,16 @@ use Rattle.flags.specs.Numbers.{top, topSet, valued, magnitude, wrapped}
 use Rattle.flags.specs.declared.word.Flags.{Flags}
 use Rattle.flags.proofs.SignLaws.{magnitude-plain, plain-lt, signed-wrapped, wrapped-sign}
 use Rattle.divide.specs.Divide.{accepted, accepts, quotientOf, remainderOf, quotientReturned, divide}
+use Rattle.divide.specs.Cord.{Results}
 use Rattle.divide.specs.Manual.{Division, inRange, isRefused}
 use Rattle.divide.proofs.Manual.{division-holds, range-signed, range-unsigned, manual-accepts}
 
 -- a divide is refused exactly if the divisor is 0 or the quotient is out of the manual's range, signed or not; REP changes nothing of that
-pub manual-refuses : (n : ℕ) (s rep : Bool) (d b : ℕ) (f : Flags) → isRefused (divide n s rep d b f) ≡ eqb b 0 || not (inRange n s (quotientOf n s d b))
+pub manual-refuses : (n : ℕ) (s rep : Bool) (d b : ℕ) (f : Flags) → isRefused (divide n s rep d b f .outcome) ≡ eqb b 0 || not (inRange n s (quotientOf n s d b))
 unfolding divide
 manual-refuses n s rep d b f = by (accepts n s d b) refl ∙ ap not (manual-accepts n s d b) ∙ either (eqb b 0) (inRange n s (quotientOf n s d b))
   where
-    by : (c : Bool) → accepts n s d b ≡ c → isRefused (divide n s rep d b f) ≡ not c
+    by : (c : Bool) → accepts n s d b ≡ c → isRefused (divide n s rep d b f .outcome) ≡ not c
     by true e = rw e
     by false e = rw e
 
@@ -55,21 +56,24 @@ rest-in-range n true d b hn hb h =
 rest-in-range n false d b hn hb h = range-unsigned n (d % b) ∙ lt-ltb (d % b) (2 ^ n) (omega (arith, mod-lt d h))
 
 -- a divide without REP that is accepted
-module _ (n : ℕ) (s : Bool) (d b : ℕ) (f : Flags) {q r : ℕ} {g : Flags} {t : ℕ} (e : divide n s false d b f ≡ accepted q r g t) where
+module _ (n : ℕ) (s : Bool) (d b : ℕ) (f : Flags) {r : Results} (e : divide n s false d b f .outcome ≡ accepted r) where
   -- the bits that are answered
-  answered : (accepts n s d b ≡ true) × (q ≡ wrapped n (quotientOf n s d b)) × (r ≡ wrapped n (remainderOf n s d b))
+  answered : (accepts n s d b ≡ true) × (r .quotient ≡ wrapped n (quotientOf n s d b)) × (r .remainder ≡ wrapped n (remainderOf n s d b))
   unfolding divide
   answered = by (accepts n s d b) refl
     where
-      by : (c : Bool) → accepts n s d b ≡ c → (c ≡ true) × (q ≡ wrapped n (quotientOf n s d b)) × (r ≡ wrapped n (remainderOf n s d b))
-      by true x = let e′ = rw (x, without-rep s (quotientOf n s d b)) at e in (refl, cc, cc)
+      by : (c : Bool) → accepts n s d b ≡ c → (c ≡ true) × (r .quotient ≡ wrapped n (quotientOf n s d b)) × (r .remainder ≡ wrapped n (remainderOf n s d b))
+      by true x =
+          let e′ = rw (x, without-rep s (quotientOf n s d b)) at e in
+          let same : r ≡ record { quotient = wrapped n (quotientOf n s d b); remainder = wrapped n (remainderOf n s d b) } = cc in
+          (refl, ap (λ (w : Results). w .quotient) same, ap (λ (w : Results). w .remainder) same)
       by false x = let e′ = rw x at e in absurd (true≢false (ap isRefused e′))
 
   -- its quotient and its remainder, read as numbers of n bits, are those of the manual's division, signed or not
-  pub manual-divides : 0 < n → b < 2 ^ n → Division (valued s (n + n) d) (valued s n b) (valued s n q) (valued s n r)
+  pub manual-divides : 0 < n → b < 2 ^ n → Division (valued s (n + n) d) (valued s n b) (valued s n (r .quotient)) (valued s n (r .remainder))
   manual-divides hn hb =
       let ok = and-eq-true-iff (not (eqb b 0)) (inRange n s (quotientOf n s d b)) .0 (sym (manual-accepts n s d b) ∙ answered .0) in
       let there = some n s b hb (eqb-false b 0 (not-true (eqb b 0) (ok .0))) in
-      let quotient : valued s n q ≡ quotientOf n s d b = ap (valued s n) (answered .1) ∙ back n s (quotientOf n s d b) hn (ok .1) in
-      let remainder : valued s n r ≡ remainderOf n s d b = ap (valued s n) (answered .2) ∙ back n s (remainderOf n s d b) hn (rest-in-range n s d b hn hb there) in
+      let quotient : valued s n (r .quotient) ≡ quotientOf n s d b = ap (valued s n) (answered .1) ∙ back n s (quotientOf n s d b) hn (ok .1) in
+      let remainder : valued s n (r .remainder) ≡ remainderOf n s d b = ap (valued s n) (answered .2) ∙ back n s (remainderOf n s d b) hn (rest-in-range n s d b hn hb there) in
       rw (quotient, remainder) (division-holds (valued s (n + n) d) (valued s n b) there)

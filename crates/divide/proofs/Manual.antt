@@ -16,7 +16,7 @@ use Rattle.flags.specs.Numbers.{top}
 use Rattle.flags.proofs.SignedLaws.{Diff, above, below, diff-add, diff-neg, same-test}
 use Rattle.flags.proofs.SignLaws.{signOf, abs-sign, mul-sign, quot-sign, rem-sign}
 use Rattle.divide.specs.Divide.{accepts, quotientOf}
-use Rattle.divide.specs.Manual.{negative, Division, largest, inRange}
+use Rattle.divide.specs.Manual.{negative, Division, largestQuotient, inRange}
 use Rattle.divide.proofs.DivLaws.{below as quotient-below}
 
 -- every number is its sign and its magnitude
@@ -192,11 +192,11 @@ from-minus (suc m) (negsuc k) = and-true (leb k m) ∙ sym (leb·suc-suc k m)
 
 -- a signed quotient is in range if its magnitude is below the top bit
 pub range-signed : (n : ℕ) (z : ℤ) → inRange n true z ≡ ltb (natAbs z) (top n)
-range-signed n z = from-minus (largest n true) z ∙ below-next (natAbs z) (largest n true) (top n) (omega (arith, pow-pos (n - 1)))
+range-signed n z = from-minus (largestQuotient n true) z ∙ below-next (natAbs z) (largestQuotient n true) (top n) (omega (arith, pow-pos (n - 1)))
 
 -- another if it fits n bits
 pub range-unsigned : (n k : ℕ) → inRange n false (pos k) ≡ ltb k (2 ^ n)
-range-unsigned n k = rw (le-leb 0 k (omega arith)) (below-next k (largest n false) (2 ^ n) (omega (arith, pow-pos n)))
+range-unsigned n k = rw (le-leb 0 k (omega arith)) (below-next k (largestQuotient n false) (2 ^ n) (omega (arith, pow-pos n)))
 
 -- the divisor is above the dividend's upper half exactly if it is not 0 and the quotient fits
 quotient-fits : (n d b : ℕ) → ltb (d / 2 ^ n) b ≡ not (eqb b 0) && ltb (d / b) (2 ^ n)

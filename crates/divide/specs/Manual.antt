@@ -11,7 +11,7 @@ use mathlib.Core.Logic.{_⊎_}
 use Prim.Native.Nat.{ℕ, _-_, _^_, _<_}
 use lib.IntN.{ℤ, pos, negsuc, negℤ, natAbs, _+ℤ_, _*ℤ_}
 use lib.Signed.{leZ}
-use Rattle.divide.specs.Divide.{Divided, accepted, refused}
+use Rattle.divide.specs.Divide.{DivideOutcome, accepted, refused}
 
 -- a number below 0
 abbrev pub negative : ℤ → Bool
@@ -26,20 +26,20 @@ pub record Division (z w q r : ℤ) : Type 0 where
   pub sign : (natAbs r ≡ 0) ⊎ (negative r ≡ negative z)
 
 -- the largest quotient of DIV, and of IDIV
-abbrev pub largest : ℕ → Bool → ℕ
-largest n false = 2 ^ n - 1
-largest n true = 2 ^ (n - 1) - 1
+abbrev pub largestQuotient : ℕ → Bool → ℕ
+largestQuotient n false = 2 ^ n - 1
+largestQuotient n true = 2 ^ (n - 1) - 1
 
 -- and the least
-abbrev pub least : ℕ → Bool → ℤ
-least n false = pos 0
-least n true = negℤ (pos (largest n true))
+abbrev pub leastQuotient : ℕ → Bool → ℤ
+leastQuotient n false = pos 0
+leastQuotient n true = negℤ (pos (largestQuotient n true))
 
 -- a quotient from the least to the largest
 abbrev pub inRange : ℕ → Bool → ℤ → Bool
-inRange n s q = leZ (least n s) q && leZ q (pos (largest n s))
+inRange n s q = leZ (leastQuotient n s) q && leZ q (pos (largestQuotient n s))
 
 -- where the chip makes the interrupt, a divide here answers a refusal
-abbrev pub isRefused : Divided → Bool
-isRefused (accepted q r f t) = false
-isRefused (refused why f t) = true
+abbrev pub isRefused : DivideOutcome → Bool
+isRefused (accepted results) = false
+isRefused (refused why) = true
