@@ -81,8 +81,8 @@ enum hatchyarn_flag {
  *   signed multiply, divide, AAA, AAS, DAA, DAS  all six
  *   AAD                                          P, Z, S
  *
- * So ADD to SHL_AF are what the chip's ALU does and not whole instructions: P, Z and S of a sum or a
- * shift are left to the caller. They count no steps, and neither do DAA and DAS.
+ * So ADD to SHL_AF are what the chip's ALU does and not whole instructions: the flags P, Z and S of a
+ * sum or a shift are left to the caller. They count no steps, and neither do DAA and DAS.
  *
  * After the statuses 3 to 5 all of it is 0. After HATCHYARN_DIVIDE_REFUSED
  * the flags are those handed in, the steps are those up to the trap, and r and s are 0. */
@@ -90,7 +90,7 @@ struct hatchyarn_answer {
     uint16_t flags;
     uint16_t steps; /* of the microcode */
     uint16_t r;     /* result, quotient, AX or product; the upper half if that has 32 bits */
-    uint16_t s;     /* remainder, or the lower half of such a product; else 0 */
+    uint16_t s;     /* remainder, or the lower half of such a product; else 0. This is not the flag S */
 };
 
 /* The bytes of an answer line, its line feed included. */
@@ -121,6 +121,16 @@ uint8_t hatchyarn_line(const uint8_t *line, size_t length, uint8_t *out, size_t 
  * for the text that follows. Returns how many lines were answered, and writes to *used how many bytes
  * of the text they are, line feeds included: go on from there. Bytes of `out` after the last answer
  * are as they were.
+ *
+ * It returns 0, and *used is 0, in three cases, and only one of them is the end:
+ *
+ *   room is under 19           make room for an answer;
+ *   else, length is not 0      the text is the start of a line, and at_end is false: read on behind it;
+ *   else                       there is nothing left of this text.
+ *
+ * In the second case a buffer may be full. Its line is then longer than any request, and is answered
+ * with status 1 whatever follows: 21 of its bytes are enough to keep, so that it stays too long, and
+ * the rest of the buffer is free. examples/stream.c reads a text of any length in this way.
  */
 size_t hatchyarn_run(const uint8_t *text, size_t length, uint8_t *out, size_t room, bool at_end,
                      size_t *used);

@@ -72,7 +72,14 @@ static void runs(void)
     expect(hatchyarn_run(text, length, out, sizeof out, true, &used) == 2 && used == length
                && memcmp(out, answers, 38) == 0 && out[38] == '?', "a run to the end");
     expect(hatchyarn_run(text, length, out, 37, true, &used) == 1 && used == 21, "a run with room for one");
-    expect(hatchyarn_run(text, 0, out, sizeof out, true, &used) == 0 && used == 0, "a run over nothing");
+    memset(out, '?', sizeof out);
+    used = 99;
+    expect(hatchyarn_run(text, length, out, 18, true, &used) == 0 && used == 0 && out[0] == '?', "a run without room");
+    used = 99;
+    expect(hatchyarn_run(text, 20, out, sizeof out, false, &used) == 0 && used == 0 && out[0] == '?',
+           "a run over the start of a line");
+    used = 99;
+    expect(hatchyarn_run(text, 0, out, sizeof out, true, &used) == 0 && used == 0 && out[0] == '?', "a run over nothing");
 }
 
 int main(void)

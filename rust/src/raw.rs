@@ -64,6 +64,10 @@ pub fn line(line: &[u8], out: &mut [u8]) -> u8 {
 
 /// Answers as many lines of `text` as `out` has room for. A last line without a line feed is a line
 /// where `at_end` says that no more text follows, and waits otherwise.
+///
+/// No line is answered and no byte used where `out` has no room for an answer, where `text` is only the
+/// start of a line that waits, and where `text` is empty. [`answer_all`](crate::answer_all) answers a
+/// text of any length.
 pub fn run(text: &[u8], out: &mut [u8], at_end: bool) -> Ran {
     let mut used = 0;
     // SAFETY: each pointer goes with the length of its slice, and all that is written is apart.
