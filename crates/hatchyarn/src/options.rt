@@ -1,29 +1,46 @@
-// The options, which are looked for among all arguments before anything is answered.
+// The options, which are looked for among the arguments before anything is answered.
 use libc::STDERR_FILENO;
 use libc::STDOUT_FILENO;
 
+// What the arguments ask for. Answers are asked for with the place of the word `--`, which is no file;
+// where there is none, with the number of the arguments.
 pub enum Asked {
     Help,
     Version,
     Unknown(usize),
-    Answers,
+    Answers(usize),
 }
 
-// What one argument asks for. A lone hyphen is a name, that of standard input.
-fn asked_by(argument: &[u8], i: usize) -> Asked {
+// What one argument is.
+enum Word {
+    Help,
+    Version,
+    Unknown,
+    End,
+    Name,
+}
+
+// A lone hyphen is a name, that of standard input.
+fn read_word(argument: &[u8]) -> Word {
     if argument.len() < 2 {
-        return Asked::Answers;
+        return Word::Name;
     }
     if argument[0] != b'-' {
-        return Asked::Answers;
+        return Word::Name;
+    }
+    if check::same(argument, b"--") {
+        return Word::End;
+    }
+    if check::same(argument, b"-h") {
+        return Word::Help;
     }
     if check::same(argument, b"--help") {
-        return Asked::Help;
+        return Word::Help;
     }
     if check::same(argument, b"--version") {
-        return Asked::Version;
+        return Word::Version;
     }
-    Asked::Unknown(i)
+    Word::Unknown
 }
 
 pub fn asked_for() -> Asked {
@@ -32,14 +49,15 @@ pub fn asked_for() -> Asked {
     let mut i = 1;
     while i < count {
         let n = os::arg(i, &mut argument);
-        let one = asked_by(&argument[..n], i);
-        if let Asked::Answers = one {
-            i += 1;
-        } else {
-            return one;
+        match read_word(&argument[..n]) {
+            Word::Help => return Asked::Help,
+            Word::Version => return Asked::Version,
+            Word::Unknown => return Asked::Unknown(i),
+            Word::End => return Asked::Answers(i),
+            Word::Name => i += 1,
         }
     }
-    Asked::Answers
+    Asked::Answers(count)
 }
 
 // What was asked for is shown, or it is said that it could not be.
@@ -51,7 +69,7 @@ fn show(text: &[u8]) {
 
 pub fn help() {
     show(
-        b"hatchyarn: the arithmetic of the 8088, proved\n\nuse: hatchyarn [FILE...] < requests > answers\n\nA request is a line of 20 hexadecimal digits: op (2), mode (2), flags (4), X (8),\nY (4). Its answer is a line of 18: status (2), flags (4), steps (4), R (4), S (4).\nWith no FILE, or where FILE is -, requests are read from standard input. Each\nfile's last line may lack its line feed. A line that is not 20 bytes long is\nanswered with status 1, however long it is. hatchyarn(1) lists the ops, modes and\nstatuses.\n\n  --help      this text\n  --version   the version\n\nThere is no exit status to test. Nothing stands on standard error, and there is\nan answer for each line, exactly if all went well.\n",
+        b"hatchyarn: the arithmetic of the 8088, proved\n\nuse: hatchyarn [--] [FILE...] < requests > answers\n\nA request is a line of 20 hexadecimal digits: op (2), mode (2), flags (4), X (8),\nY (4). Its answer is a line of 18: status (2), flags (4), steps (4), R (4), S (4).\nWith no FILE, or where FILE is -, requests are read from standard input. Each\nfile's last line may lack its line feed. A line that is not 20 bytes long is\nanswered with status 1, however long it is. hatchyarn(1) lists the ops, modes and\nstatuses.\n\n  -h, --help  this text\n  --version   the version\n  --          what follows is a FILE, whatever its name\n\nThe exit status is 0 if everything was read, answered and written, and else 1.\n",
     );
 }
 

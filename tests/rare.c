@@ -1,0 +1,34 @@
+/* Loaded before the C library (LD_PRELOAD), so that what rarely happens does, as RARE says:
+ *   short    a read gives no more than 7 bytes
+ *   read     the second read fails
+ *   close    the closing of standard output fails, as on a full disk across a network */
+#include <errno.h>
+#include <stdlib.h>
+#include <string.h>
+#include <sys/syscall.h>
+#include <unistd.h>
+
+static int wanted(const char *what)
+{
+    const char *rare = getenv("RARE");
+    return rare != NULL && strcmp(rare, what) == 0;
+}
+
+ssize_t read(int fd, void *bytes, size_t length)
+{
+    static int reads;
+    if (++reads == 2 && wanted("read")) {
+        errno = EIO;
+        return -1;
+    }
+    return syscall(SYS_read, fd, bytes, length > 7 && wanted("short") ? 7 : length);
+}
+
+int close(int fd)
+{
+    if (fd == STDOUT_FILENO && wanted("close")) {
+        errno = EIO;
+        return -1;
+    }
+    return (int)syscall(SYS_close, fd);
+}
