@@ -6,18 +6,17 @@
  * The key is divided by the number, signed, as an 8088 divides. The quotient is the shelf and the
  * remainder names the keeper. Where the chip traps, the object is closed.
  */
-#include <errno.h>
 #include <hatchyarn.h>
 #include <stdio.h>
 #include <stdlib.h>
+#include <string.h>
 
-/* Whether the whole of text is a hexadecimal number up to most. */
-static bool number(const char *text, unsigned long most, unsigned long *value)
+/* Whether text is 1 to `most` hexadecimal digits and nothing else. */
+static bool number(const char *text, size_t most, unsigned long *value)
 {
-    char *end;
-    errno = 0;
-    *value = strtoul(text, &end, 16);
-    return end != text && *end == '\0' && errno == 0 && *value <= most;
+    size_t digits = strspn(text, "0123456789ABCDEFabcdef");
+    *value = strtoul(text, NULL, 16);
+    return digits > 0 && digits <= most && text[digits] == '\0';
 }
 
 int main(int argc, char **argv)
@@ -25,8 +24,8 @@ int main(int argc, char **argv)
     unsigned long key, divisor;
     struct hatchyarn_answer answer;
 
-    if (argc != 3 || !number(argv[1], 0xFFFF, &key) || !number(argv[2], 0xFF, &divisor)) {
-        fprintf(stderr, "use: shelf KEY NUMBER, hexadecimal, at most FFFF and FF\n");
+    if (argc != 3 || !number(argv[1], 4, &key) || !number(argv[2], 2, &divisor)) {
+        fprintf(stderr, "use: shelf KEY NUMBER, of 1 to 4 and of 1 or 2 hexadecimal digits\n");
         return 2;
     }
     uint8_t status = hatchyarn_ask(HATCHYARN_OP_DIVIDE, HATCHYARN_MODE_BYTE | HATCHYARN_MODE_SIGNED,
