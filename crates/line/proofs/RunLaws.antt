@@ -12,11 +12,11 @@ use lib.Dec.{leb, ltb, eqb, lit<}
 use lib.ListN.{length, take, drop, length-append, length-drop, drop-of-length-le}
 use lib.Seq.{take-append-le, drop-append-le, drop-drop}
 use borrow.Author.Tests.{lt-ltb, ltb-true, leb-true, leb-false}
-use Rattle.text.specs.Lines.{lineLength}
+use Rattle.text.specs.Lines.{lineLength, takes, linesOf}
+use Rattle.text.proofs.NextLine.{takes-within, no-line, first-line, same-line, same-takes, all-taken}
 use Rattle.line.specs.One.{textOf}
-use Rattle.line.specs.Run.{Done, done, after, runOf, linesIn}
-use Rattle.line.proofs.Turns.{takes, takes-within, stops, full, goes, textOf-length}
-use Rattle.line.proofs.LineCount.{none-left, one-more}
+use Rattle.line.specs.Run.{Done, done, after, runOf}
+use Rattle.line.proofs.Turns.{stops, full, goes, textOf-length}
 
 -- ---- one induction for all laws: on the room, with the case that no line is left
 
@@ -32,10 +32,10 @@ module _ (e : Bool) (P : ℕ → List ℕ → List ℕ → Done → Type 0) (non
 
 -- ---- how far a run goes
 
-pub lines-answered : (m : ℕ) (e : Bool) (t o : List ℕ) → runOf m e t o .lines ≡ min m (linesIn e t)
+pub lines-answered : (m : ℕ) (e : Bool) (t o : List ℕ) → runOf m e t o .lines ≡ min m (length (linesOf e t))
 lines-answered m e t o =
-    by-run e (λ m t o d. d .lines ≡ min m (linesIn e t)) (λ t o. omega arith) (λ m t o q. omega (arith, none-left e t q))
-    (λ m t o d some h. omega (arith, one-more e t some)) m t o
+    by-run e (λ m t o d. d .lines ≡ min m (length (linesOf e t))) (λ t o. omega arith) (λ m t o q. omega (arith, ap length (no-line e t q)))
+    (λ m t o d some h. omega (arith, ap length (first-line e t some))) m t o
 
 pub used-within : (m : ℕ) (e : Bool) (t o : List ℕ) → runOf m e t o .used ≤ length t
 used-within m e t o =
@@ -79,31 +79,12 @@ unchanged m e t o = simp add-zero at (continued m 0 e t o)
 
 -- ---- block by block
 
-has-feed : (t : List ℕ) → 0 < takes false t → lineLength t < length t
-has-feed t h = by (ltb (lineLength t) (length t)) refl h
-  where
-    by : (x : Bool) → ltb (lineLength t) (length t) ≡ x → 0 < cond x (suc (lineLength t)) 0 → lineLength t < length t
-    by true q h = ltb-true _ _ q
-    by false q h = absurd (not-suc-le-zero h)
-
-feed-by : (x : Bool) (l n k : ℕ) → (k < n → l ≡ k) → cond x 0 (suc k) < suc n → cond x 0 (suc l) ≡ cond x 0 (suc k)
-feed-by true l n k r h = refl
-feed-by false l n k r h = ap suc (r (le-of-suc-le-suc h))
-
--- a line feed in the first block ends the same line in the whole
-feed-in-first : (t v : List ℕ) → lineLength t < length t → lineLength (t ++ v) ≡ lineLength t
-feed-in-first [] v h = absurd (not-suc-le-zero h)
-feed-in-first (b ∷ t) v h = feed-by (eqb b 0x0A) _ (length t) _ (feed-in-first t v) h
-
 -- so the whole starts with the block's first line
 same-turn : (m : ℕ) (e : Bool) (t v o : List ℕ) → 0 < takes false t
     → runOf (suc m) e (t ++ v) o ≡ after (textOf (take (lineLength t) t)) 1 (takes false t) (runOf m e (drop (takes false t) t ++ v) (drop 19 o))
-unfolding runOf
 same-turn m e t v o some =
-    let f : lineLength t < length t = has-feed t some in
-    let whole : lineLength t < length (t ++ v) = simp length-append (omega arith) in
-    let up-to : lineLength t ≤ length t = omega arith in
-    rw (feed-in-first t v f, lt-ltb _ _ whole, lt-ltb _ _ f, take-append-le (lineLength t) t v up-to, drop-append-le (suc (lineLength t)) t v f)
+    let f : takes false t ≤ length t = takes-within false t in
+    goes m e (t ++ v) o (rw (same-takes e t v some) some) ∙ rw (same-line e t v some, same-takes e t v some, drop-append-le (takes false t) t v f)
 
 -- with room for the block's lines alone, the whole is answered as the block is
 block : (m : ℕ) (e : Bool) (t v o : List ℕ) → runOf (runOf m false t o .lines) e (t ++ v) o ≡ runOf m false t o
@@ -123,41 +104,24 @@ by-blocks m k e t v o =
 
 -- ---- two texts joined at a line's end
 
-no-line : (n : ℕ) (e : Bool) (t : List ℕ) → takes e t ≡ n → linesIn e t ≡ 0 → takes e t ≡ 0
-no-line zero e t q h = q
-no-line (suc n) e t q h = let some : 0 < takes e t = omega arith in omega (arith, one-more e t some)
+no-more : (n : ℕ) (e : Bool) (t : List ℕ) → takes e t ≡ n → length (linesOf e t) ≡ 0 → takes e t ≡ 0
+no-more zero e t q h = q
+no-more (suc n) e t q h = let some : 0 < takes e t = omega arith in omega (arith, ap length (first-line e t some))
 
 -- with room for every line, what a run leaves holds none
-pub all-answered : (m : ℕ) (e : Bool) (t o : List ℕ) → linesIn e t ≤ m → takes e (drop (runOf m e t o .used) t) ≡ 0
+pub all-answered : (m : ℕ) (e : Bool) (t o : List ℕ) → length (linesOf e t) ≤ m → takes e (drop (runOf m e t o .used) t) ≡ 0
 all-answered m e t o =
-    by-run e (λ m t o d. linesIn e t ≤ m → takes e (drop (d .used) t) ≡ 0) (λ t o l. no-line (takes e t) e t refl (omega arith)) (λ m t o q l. q)
-    (λ m t o d some h l. rw drop-drop at (h (omega (arith, one-more e t some)))) m t o
-
-end-by : (x : Bool) (l n : ℕ) → l < n → cond x 0 (suc l) < suc n
-end-by true l n h = omega arith
-end-by false l n h = omega arith
-
-ends : (s : List ℕ) → lineLength (s ++ (0x0A ∷ [])) < length (s ++ (0x0A ∷ []))
-ends [] = lit< tt
-ends (b ∷ s) = end-by (eqb b 0x0A) _ _ (ends s)
-
-used-by : (x : Bool) (s : List ℕ) (u : ℕ) → leb u (length s) ≡ x
-    → takes false (drop u (s ++ (0x0A ∷ []))) ≡ 0 → u ≤ length (s ++ (0x0A ∷ [])) → u ≡ length (s ++ (0x0A ∷ []))
-used-by true s u q none within =
-    let rest : drop u (s ++ (0x0A ∷ [])) ≡ drop u s ++ (0x0A ∷ []) = drop-append-le u s (0x0A ∷ []) (leb-true _ _ q) in
-    let z : ⊥ = omega (arith, rw (rest, lt-ltb _ _ (ends (drop u s))) at none) in
-    absurd z
-used-by false s u q none within = omega (arith, leb-false u (length s) q, length-append s (0x0A ∷ []))
+    by-run e (λ m t o d. length (linesOf e t) ≤ m → takes e (drop (d .used) t) ≡ 0) (λ t o l. no-more (takes e t) e t refl (omega arith)) (λ m t o q l. q)
+    (λ m t o d some h l. rw drop-drop at (h (omega (arith, ap length (first-line e t some))))) m t o
 
 pub joined : (k : ℕ) (e : Bool) (s v o : List ℕ)
     → (let t = s ++ (0x0A ∷ []) in
-    let n = linesIn false t in
+    let n = length (linesOf false t) in
     runOf (n + k) e (t ++ v) o ≡ after (runOf n false t [] .bytes) n (length t) (runOf k e v (drop (n * 19) o)))
 joined k e s v o =
     let t = s ++ (0x0A ∷ []) in
-    let n = linesIn false t in
+    let n = length (linesOf false t) in
     let lines : runOf n false t [] .lines ≡ n = lines-answered n false t [] ∙ omega arith in
-    let used : runOf n false t [] .used ≡ length t =
-    used-by (leb (runOf n false t [] .used) (length s)) s _ refl (all-answered n false t [] (le-refl _)) (used-within n false t []) in
+    let used : runOf n false t [] .used ≡ length t = all-taken s _ (all-answered n false t [] (le-refl _)) (used-within n false t []) in
     let none : drop (length t) t ≡ [] = drop-of-length-le t (le-refl _) in
     rw (lines, used, none) at (by-blocks n k e t v o)

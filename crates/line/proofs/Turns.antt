@@ -12,25 +12,13 @@ use lib.Seq.{take-at, drop-at, drop-drop, take-all, length-take-le}
 use borrow.Author.Tests.{lt-ltb, le-ltb, ltb-true, ltb-false}
 use borrow.Rule.Slice.PartMut.{putMid}
 use Rattle.text.specs.Fields.{readOf}
-use Rattle.text.specs.Lines.{lineLength, lineAt, lineEnd}
+use Rattle.text.specs.Lines.{lineLength, lineAt, takes}
 use Rattle.text.specs.declared.fields.Read.{Read}
 use Rattle.text.proofs.ReadBack.{written-length}
 use Rattle.line.specs.One.{answerBy, textBy, answerOf, textOf}
-use Rattle.line.specs.Run.{Done, done, after, lastRun, runOf, nextOf}
+use Rattle.line.specs.Run.{Done, done, after, lastRun, runOf}
 
--- ---- the next line
-
--- the bytes that the next line takes, its line feed with it; none where no line is left
-abbrev pub takes : Bool → List ℕ → ℕ
-takes e t = nextOf 0 (lineLength t) (length t) e
-
-take-by : (x e : Bool) (t : List ℕ) → ltb (lineLength t) (length t) ≡ x → cond x (suc (lineLength t)) (cond e (length t) 0) ≤ length t
-take-by true e t q = ltb-true _ _ q
-take-by false true t q = le-refl _
-take-by false false t q = omega arith
-
-pub takes-within : (e : Bool) (t : List ℕ) → takes e t ≤ length t
-takes-within e t = take-by (ltb (lineLength t) (length t)) e t refl
+-- ---- one line more, or none
 
 stop-by : (x e : Bool) (n : ℕ) (t o : List ℕ) (d : Done)
     → cond x (suc n) (cond e (length t) 0) ≡ 0 → cond x d (lastRun e t o) ≡ done o 0 0
@@ -78,23 +66,6 @@ textOf-length line = written-length _ _ _ _ _
 -- where nothing follows any more
 pub ended : (out : List ℕ) (p lines used : ℕ) {d R : Done} → d ≡ done (drop p out) 0 0 → after (take p out) lines used d ≡ R → done out lines used ≡ R
 ended out p lines used h r = simp (h, take-append-drop, add-zero) at r
-
--- the next line in the whole text
-module _ (text : List ℕ) (used end : ℕ) (e : Bool) (inside : used ≤ length text) (is-end : end ≡ lineEnd text used) where
-  by-mark : (x : Bool) → cond x (length text) used ≡ used + cond x (length (drop used text)) 0
-  by-mark true = simp length-drop (omega arith)
-  by-mark false = omega arith
-
-  pub next-takes : nextOf used end (length text) e ≡ used + takes e (drop used text)
-  next-takes = by (ltb end (length text)) refl
-    where
-      by : (x : Bool) → ltb end (length text) ≡ x → cond x (suc end) (cond e (length text) used) ≡ used + takes e (drop used text)
-      by true q =
-          let h : lineLength (drop used text) < length (drop used text) = simp length-drop (omega (arith, ltb-true end (length text) q)) in
-          rw (lt-ltb _ _ h) (omega arith)
-      by false q =
-          let h : length (drop used text) ≤ lineLength (drop used text) = simp length-drop (omega (arith, ltb-false end (length text) q)) in
-          rw (le-ltb _ _ h) (by-mark e)
 
 -- the part from p on is lent, 19 long, and comes back as a
 module _ (out a : List ℕ) (p : ℕ) (fits : p + 19 ≤ length out) (long : length a ≡ 19) where

@@ -2,7 +2,7 @@
 use mathlib.Core.Bool.{Bool, true, false, cond}
 use mathlib.Core.List.{List, [], _∷_, _++_}
 use Prim.Native.Nat.{ℕ, zero, suc, _+_}
-use lib.Dec.{ltb, eqb}
+use lib.Dec.{ltb}
 use lib.ListN.{length, take, drop}
 use Rattle.text.specs.Lines.{lineLength}
 use Rattle.line.specs.One.{textOf}
@@ -34,14 +34,3 @@ runOf (suc room) atEnd text out =
     cond (ltb (lineLength text) (length text))
     (after (textOf (take (lineLength text) text)) 1 (suc (lineLength text)) (runOf room atEnd (drop (suc (lineLength text)) text) (drop 19 out)))
     (lastRun atEnd text out)
-
--- where the line after the next one starts, in a text of this size whose next line runs from `from` to `end`: past its line feed, or at the text's
--- end where the tail is a line too; `from` itself where no line is left
-abbrev pub nextOf : ℕ → ℕ → ℕ → Bool → ℕ
-nextOf from end size atEnd = cond (ltb end size) (suc end) (cond atEnd size from)
-
--- how many lines a text has: one for each line feed, and with the mark one more where the last byte is no line feed
-abbrev pub linesIn : Bool → List ℕ → ℕ
-linesIn atEnd [] = 0
-linesIn atEnd (b ∷ []) = cond (eqb b 0x0A) 1 (cond atEnd 1 0)
-linesIn atEnd (b ∷ c ∷ text) = cond (eqb b 0x0A) (suc (linesIn atEnd (c ∷ text))) (linesIn atEnd (c ∷ text))

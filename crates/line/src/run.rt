@@ -3,28 +3,15 @@ ghost use mathlib.Core.Path.{_≡_};
 ghost use Prim.Native.Nat.{_/_};
 ghost use lib.ListN.{length};
 ghost use Rattle.text.specs.Digits.{DigitTable, CapitalTable};
-ghost use Rattle.line.specs.Run.{nextOf, done, runOf};
+ghost use Rattle.line.specs.Run.{done, runOf};
 use crate::one;
 use text::digits;
 use text::found;
+use text::lines;
 
 pub struct Ran {
     pub lines: usize,
     pub used: usize,
-}
-
-// Where the line after the next one starts: past the line feed at `end`, or at the end of a tail that is a
-// line too. `from` itself where no line is left.
-fn next_start(from: usize, end: usize, size: usize, at_end: bool) -> usize
-    ensures { λ r. ⌜ r ≡ nextOf from end size «at_end» ⌝ }
-{
-    if end < size {
-        return end + 1;
-    }
-    if at_end {
-        return size;
-    }
-    from
 }
 
 // Each answer goes in at its own place: the part of the answer bytes from 19 times the line's number
@@ -39,7 +26,7 @@ fn run_by(digits: &[u8; 256], capitals: &[u8; 16], text: &[u8], out: &mut [u8], 
     let mut used = 0;
     while answered < room {
         let line = found::read_at(digits, text, used);
-        let next = next_start(used, line.end, text.len(), at_end);
+        let next = lines::next_start(used, line.end, text.len(), at_end);
         if next == used {
             break;
         }

@@ -1,3 +1,4 @@
 pub mod FoundLaws
 pub mod LineLaws
+pub mod NextLine
 pub mod ReadBack

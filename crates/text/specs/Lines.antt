@@ -1,9 +1,9 @@
--- Where a line ends: before a line feed, or with the text. Assumes nothing.
-use mathlib.Core.Bool.{cond}
+-- The lines of a text: a line ends before a line feed; a tail is a line too with the mark that the text is at its end. Assumes nothing.
+use mathlib.Core.Bool.{Bool, true, false, cond}
 use mathlib.Core.List.{List, [], _∷_}
 use Prim.Native.Nat.{ℕ, suc, _+_}
-use lib.Dec.{eqb}
-use lib.ListN.{take, drop}
+use lib.Dec.{ltb, eqb}
+use lib.ListN.{length, take, drop}
 use Rattle.text.specs.Fields.{readOf}
 use Rattle.text.specs.declared.found.Found.{Found}
 
@@ -23,3 +23,23 @@ lineEnd text from = from + lineLength (drop from text)
 -- that line, read, and its end
 abbrev pub foundOf : List ℕ → ℕ → Found
 foundOf text from = record { read = readOf (lineAt text from); end = lineEnd text from }
+
+-- where the line after the next one starts, in a text of this size whose next line runs from `from` to `end`: past its line feed, or at the text's
+-- end where the tail is a line too; `from` itself where no line is left
+abbrev pub nextOf : ℕ → ℕ → ℕ → Bool → ℕ
+nextOf from end size atEnd = cond (ltb end size) (suc end) (cond atEnd size from)
+
+-- the bytes that a text's first line takes, its line feed with it; 0 where there is no line
+abbrev pub takes : Bool → List ℕ → ℕ
+takes atEnd text = nextOf 0 (lineLength text) (length text) atEnd
+
+-- a byte that is no line feed, before these lines: it begins the first of them. Before none it is a tail: a line with the mark, none without
+abbrev pub withByte : Bool → ℕ → List (List ℕ) → List (List ℕ)
+withByte atEnd b (line ∷ lines) = (b ∷ line) ∷ lines
+withByte true b [] = (b ∷ []) ∷ []
+withByte false b [] = []
+
+-- the lines of a text, each without its line feed: a line feed ends one
+abbrev pub linesOf : Bool → List ℕ → List (List ℕ)
+linesOf atEnd [] = []
+linesOf atEnd (b ∷ text) = cond (eqb b 0x0A) ([] ∷ linesOf atEnd text) (withByte atEnd b (linesOf atEnd text))

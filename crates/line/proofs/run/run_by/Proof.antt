@@ -7,8 +7,10 @@ use lib.ListN.{length, take, drop, length-drop}
 use borrow.Author.Needs.{needs}
 use borrow.Rule.Slice.PartMut.{same-len-mid}
 use Rattle.text.specs.declared.found.Found.{Found}
+use Rattle.text.specs.Lines.{takes}
+use Rattle.text.proofs.NextLine.{takes-within, next-takes}
 use Rattle.line.specs.Run.{done, after, runOf}
-use Rattle.line.proofs.Turns.{takes, takes-within, stops, full, ended, next-takes, again}
+use Rattle.line.proofs.Turns.{stops, full, ended, again}
 use Rattle.line.proofs.run.run_by.Statement.{statement}
 use Rattle.line.proofs.run.run_by.Tie as tie
 

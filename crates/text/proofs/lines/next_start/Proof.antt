@@ -1,9 +1,9 @@
--- `line::run::next_start` meets its contract: the tests of the code are those of the definition. Assumes nothing.
+-- `text::lines::next_start` meets its contract: the tests of the code are those of the definition. Assumes nothing.
 use native.Mathlib.Omega.{arith}
 use borrow.Author.Needs.{needs}
 use borrow.Author.Tests.{lt-ltb, le-ltb}
-use Rattle.line.proofs.run.next_start.Statement.{statement}
-use Rattle.line.proofs.run.next_start.Tie as tie
+use Rattle.text.proofs.lines.next_start.Statement.{statement}
+use Rattle.text.proofs.lines.next_start.Tie as tie
 
 returns : tie.Need-returns
 returns c = simp (lt-ltb _ _ (c .if1 .taken)) (omega arith)
