@@ -2,126 +2,112 @@
 -- with no room to go on, that bytes after the last answer are unchanged (`unchanged`). `by-blocks`: a block that is not the last may be run by
 -- itself. `joined`: two texts joined at a line's end are run one after the other. `lines-answered`, `used-within`, `answers-length`: how far a run goes.
 -- Assumes nothing.
-use mathlib.Core.Path.{_≡_, refl, sym, ap, _∙_}
-use mathlib.Core.Bool.{Bool, true, false, cond}
+use mathlib.Core.Path.{_≡_, refl, ap, _∙_}
+use mathlib.Core.Bool.{Bool, false}
 use mathlib.Core.List.{List, [], _∷_, _++_, append-assoc}
 use Prim.Native.Nat.{ℕ, zero, suc, _+_, _-_, _*_, _<_, _≤_, min}
-use native.Mathlib.Nat.{zero-add, add-zero, add-assoc, suc-add, le-refl, le-of-suc-le-suc, not-suc-le-zero}
+use native.Mathlib.Nat.{zero-add, add-zero, add-assoc, suc-add, le-refl}
 use native.Mathlib.Omega.{arith}
-use lib.Dec.{leb, ltb, eqb, lit<}
-use lib.ListN.{length, take, drop, length-append, length-drop, drop-of-length-le}
-use lib.Seq.{take-append-le, drop-append-le, drop-drop}
-use borrow.Author.Tests.{lt-ltb, ltb-true, leb-true, leb-false}
-use Rattle.text.specs.Lines.{lineLength, takes, linesOf}
+use lib.ListN.{length, drop, length-append, length-drop, drop-of-length-le}
+use lib.Seq.{drop-append-le, drop-drop}
+use Rattle.text.specs.Lines.{lineAt, takes, linesOf}
 use Rattle.text.proofs.NextLine.{takes-within, no-line, first-line, same-line, same-takes, all-taken}
-use Rattle.line.specs.One.{textOf}
-use Rattle.line.specs.Run.{Done, done, after, runOf}
-use Rattle.line.proofs.Turns.{stops, full, goes, textOf-length}
+use Rattle.line.specs.Run.{Done, done, after, runBy}
+use Rattle.line.proofs.Turns.{stops, full, goes, by-run}
 
--- ---- one induction for all laws: on the room, with the case that no line is left
+module _ (f : List ℕ → List ℕ) where
+  -- ---- how far a run goes
 
-module _ (e : Bool) (P : ℕ → List ℕ → List ℕ → Done → Type 0) (none : (t o : List ℕ) → P zero t o (done o 0 0)) (stop : (m : ℕ) (t o : List ℕ) → takes e t ≡ 0 → P (suc m) t o (done o 0 0)) (go : (m : ℕ) (t o : List ℕ) (d : Done) → 0 < takes e t → P m (drop (takes e t) t) (drop 19 o) d → P (suc m) t o (after (textOf (take (lineLength t) t)) 1 (takes e t) d)) where
-  turn : (n m : ℕ) (t o : List ℕ) → takes e t ≡ n → P m (drop (takes e t) t) (drop 19 o) (runOf m e (drop (takes e t) t) (drop 19 o)) → P (suc m) t o (runOf (suc m) e t o)
-  turn zero m t o q h = rw (stops (suc m) e t o q) (stop m t o q)
-  turn (suc n) m t o q h = let some : 0 < takes e t = omega arith in rw (goes m e t o some) (go m t o _ some h)
+  pub lines-answered : (m : ℕ) (e : Bool) (t o : List ℕ) → runBy f m e t o .lines ≡ min m (length (linesOf e t))
+  lines-answered m e t o =
+      by-run f e (λ m t o d. d .lines ≡ min m (length (linesOf e t))) (λ t o. omega arith) (λ m t o q. omega (arith, ap length (no-line e t q)))
+      (λ m t o d some h. omega (arith, ap length (first-line e t some))) m t o
 
-  by-run : (m : ℕ) (t o : List ℕ) → P m t o (runOf m e t o)
-  unfolding runOf
-  by-run zero t o = none t o
-  by-run (suc m) t o = turn (takes e t) m t o refl (by-run m (drop (takes e t) t) (drop 19 o))
+  pub used-within : (m : ℕ) (e : Bool) (t o : List ℕ) → runBy f m e t o .used ≤ length t
+  used-within m e t o =
+      by-run f e (λ m t o d. d .used ≤ length t) (λ t o. omega arith) (λ m t o q. omega arith)
+      (λ m t o d some h. omega (arith, takes-within e t, length-drop (takes e t) t)) m t o
 
--- ---- how far a run goes
+  -- 19 bytes for each line, and what the answers left of the answer bytes
+  pub answers-length : ((line : List ℕ) → length (f line) ≡ 19) → (m : ℕ) (e : Bool) (t o : List ℕ) → length (runBy f m e t o .bytes) ≡ runBy f m e t o .lines * 19 + (length o - runBy f m e t o .lines * 19)
+  answers-length f-length m e t o =
+      by-run f e (λ m t o d. length (d .bytes) ≡ d .lines * 19 + (length o - d .lines * 19)) (λ t o. omega arith) (λ m t o q. omega arith)
+      (λ m t o d some h. omega (arith, f-length (lineAt t 0), length-append (f (lineAt t 0)) (d .bytes), length-drop 19 o)) m t o
 
-pub lines-answered : (m : ℕ) (e : Bool) (t o : List ℕ) → runOf m e t o .lines ≡ min m (length (linesOf e t))
-lines-answered m e t o =
-    by-run e (λ m t o d. d .lines ≡ min m (length (linesOf e t))) (λ t o. omega arith) (λ m t o q. omega (arith, ap length (no-line e t q)))
-    (λ m t o d some h. omega (arith, ap length (first-line e t some))) m t o
+  -- what a caller has of a run's contract: no more lines than there is room for, no more bytes than there are
+  pub ran-within : (m : ℕ) (e : Bool) (t o bytes : List ℕ) (lines used : ℕ) → done bytes lines used ≡ runBy f m e t o → (lines ≤ m) × (used ≤ length t)
+  ran-within m e t o bytes lines used q =
+      let l : lines ≡ runBy f m e t o .lines = ap (λ (d : Done). d .lines) q in
+      let u : used ≡ runBy f m e t o .used = ap (λ (d : Done). d .used) q in
+      (omega (arith, l, lines-answered m e t o), omega (arith, u, used-within m e t o))
 
-pub used-within : (m : ℕ) (e : Bool) (t o : List ℕ) → runOf m e t o .used ≤ length t
-used-within m e t o =
-    by-run e (λ m t o d. d .used ≤ length t) (λ t o. omega arith) (λ m t o q. omega arith)
-    (λ m t o d some h. omega (arith, takes-within e t, length-drop (takes e t) t)) m t o
+  -- ---- a run, and then more of it
 
--- 19 bytes for each line, and what the answers left of the answer bytes
-pub answers-length : (m : ℕ) (e : Bool) (t o : List ℕ) → length (runOf m e t o .bytes) ≡ runOf m e t o .lines * 19 + (length o - runOf m e t o .lines * 19)
-answers-length m e t o =
-    by-run e (λ m t o d. length (d .bytes) ≡ d .lines * 19 + (length o - d .lines * 19)) (λ t o. omega arith) (λ m t o q. omega arith)
-    (λ m t o d some h. omega (arith, textOf-length (take (lineLength t) t), length-append (textOf (take (lineLength t) t)) (d .bytes), length-drop 19 o)) m t o
+  -- what d has answered, then a run with room for k over the rest
+  abbrev pub follow : ℕ → Bool → List ℕ → List ℕ → Done → Done
+  follow k e t o d = after (d .bytes) (d .lines) (d .used) (runBy f k e (drop (d .used) t) (drop (d .lines * 19) o))
 
--- what a caller has of a run's contract: no more lines than there is room for, no more bytes than there are
-pub ran-within : (m : ℕ) (e : Bool) (t o bytes : List ℕ) (lines used : ℕ) → done bytes lines used ≡ runOf m e t o → (lines ≤ m) × (used ≤ length t)
-ran-within m e t o bytes lines used q =
-    let l : lines ≡ runOf m e t o .lines = ap (λ (d : Done). d .lines) q in
-    let u : used ≡ runOf m e t o .used = ap (λ (d : Done). d .used) q in
-    (omega (arith, l, lines-answered m e t o), omega (arith, u, used-within m e t o))
+  pub continued : (m k : ℕ) (e : Bool) (t o : List ℕ) → runBy f (m + k) e t o ≡ follow k e t o (runBy f m e t [])
+  continued m k e t o =
+      by-run f e (λ m t p d. p ≡ [] → (o : List ℕ) → runBy f (m + k) e t o ≡ follow k e t o d)
+      (λ t p n o. rw (n, zero-add k) (simp zero-add))
+      (λ m t p q n o. rw (n, stops f (suc m + k) e t o q, stops f k e t o q) (simp zero-add))
+      (λ m t p d some h n o.
+      let past : 19 + d .lines * 19 ≡ (1 + d .lines) * 19 = omega arith in
+      rw (suc-add m k, goes f (m + k) e t o some, h (ap (drop 19) n) (drop 19 o)) (simp (append-assoc, add-assoc, drop-drop, past)))
+      m t [] refl o
 
--- ---- a run, and then more of it
+  -- bytes after the last answer are unchanged; the answers themselves do not depend on what stood there
+  pub unchanged : (m : ℕ) (e : Bool) (t o : List ℕ)
+      → (let d = runBy f m e t [] in runBy f m e t o ≡ done (d .bytes ++ drop (d .lines * 19) o) (d .lines) (d .used))
+  unfolding runBy
+  unchanged m e t o = simp add-zero at (continued m 0 e t o)
 
--- what d has answered, then a run with room for k over the rest
-abbrev pub follow : ℕ → Bool → List ℕ → List ℕ → Done → Done
-follow k e t o d = after (d .bytes) (d .lines) (d .used) (runOf k e (drop (d .used) t) (drop (d .lines * 19) o))
+  -- ---- block by block
 
-pub continued : (m k : ℕ) (e : Bool) (t o : List ℕ) → runOf (m + k) e t o ≡ follow k e t o (runOf m e t [])
-continued m k e t o =
-    by-run e (λ m t p d. p ≡ [] → (o : List ℕ) → runOf (m + k) e t o ≡ follow k e t o d)
-    (λ t p n o. rw (n, zero-add k) (simp zero-add))
-    (λ m t p q n o. rw (n, stops (suc m + k) e t o q, stops k e t o q) (simp zero-add))
-    (λ m t p d some h n o.
-    let past : 19 + d .lines * 19 ≡ (1 + d .lines) * 19 = omega arith in
-    rw (suc-add m k, goes (m + k) e t o some, h (ap (drop 19) n) (drop 19 o)) (simp (append-assoc, add-assoc, drop-drop, past)))
-    m t [] refl o
+  -- so the whole starts with the block's first line
+  same-turn : (m : ℕ) (e : Bool) (t v o : List ℕ) → 0 < takes false t
+      → runBy f (suc m) e (t ++ v) o ≡ after (f (lineAt t 0)) 1 (takes false t) (runBy f m e (drop (takes false t) t ++ v) (drop 19 o))
+  same-turn m e t v o some =
+      let within : takes false t ≤ length t = takes-within false t in
+      goes f m e (t ++ v) o (rw (same-takes e t v some) some) ∙ rw (same-line e t v some, same-takes e t v some, drop-append-le (takes false t) t v within)
 
--- bytes after the last answer are unchanged; the answers themselves do not depend on what stood there
-pub unchanged : (m : ℕ) (e : Bool) (t o : List ℕ)
-    → (let d = runOf m e t [] in runOf m e t o ≡ done (d .bytes ++ drop (d .lines * 19) o) (d .lines) (d .used))
-unfolding runOf
-unchanged m e t o = simp add-zero at (continued m 0 e t o)
+  -- with room for the block's lines alone, the whole is answered as the block is
+  block : (m : ℕ) (e : Bool) (t v o : List ℕ) → runBy f (runBy f m false t o .lines) e (t ++ v) o ≡ runBy f m false t o
+  block m e t v o =
+      by-run f false (λ m t o d. runBy f (d .lines) e (t ++ v) o ≡ d) (λ t o. full f 0 e (t ++ v) o refl) (λ m t o q. full f 0 e (t ++ v) o refl)
+      (λ m t o d some h.
+      let one : 1 + d .lines ≡ suc (d .lines) = omega arith in
+      rw (one, same-turn (d .lines) e t v o some, h, one))
+      m t o
 
--- ---- block by block
+  -- a block that is not the last may be run by itself: the rest is the run over what it leaves and what comes after it
+  pub by-blocks : (m k : ℕ) (e : Bool) (t v o : List ℕ)
+      → (let d = runBy f m false t [] in runBy f (d .lines + k) e (t ++ v) o ≡ after (d .bytes) (d .lines) (d .used) (runBy f k e (drop (d .used) t ++ v) (drop (d .lines * 19) o)))
+  by-blocks m k e t v o =
+      continued (runBy f m false t [] .lines) k e (t ++ v) o
+      ∙ rw (block m e t v [], drop-append-le (runBy f m false t [] .used) t v (used-within m false t []))
 
--- so the whole starts with the block's first line
-same-turn : (m : ℕ) (e : Bool) (t v o : List ℕ) → 0 < takes false t
-    → runOf (suc m) e (t ++ v) o ≡ after (textOf (take (lineLength t) t)) 1 (takes false t) (runOf m e (drop (takes false t) t ++ v) (drop 19 o))
-same-turn m e t v o some =
-    let f : takes false t ≤ length t = takes-within false t in
-    goes m e (t ++ v) o (rw (same-takes e t v some) some) ∙ rw (same-line e t v some, same-takes e t v some, drop-append-le (takes false t) t v f)
+  -- ---- two texts joined at a line's end
 
--- with room for the block's lines alone, the whole is answered as the block is
-block : (m : ℕ) (e : Bool) (t v o : List ℕ) → runOf (runOf m false t o .lines) e (t ++ v) o ≡ runOf m false t o
-block m e t v o =
-    by-run false (λ m t o d. runOf (d .lines) e (t ++ v) o ≡ d) (λ t o. full 0 e (t ++ v) o refl) (λ m t o q. full 0 e (t ++ v) o refl)
-    (λ m t o d some h.
-    let one : 1 + d .lines ≡ suc (d .lines) = omega arith in
-    rw (one, same-turn (d .lines) e t v o some, h, one))
-    m t o
+  no-more : (n : ℕ) (e : Bool) (t : List ℕ) → takes e t ≡ n → length (linesOf e t) ≡ 0 → takes e t ≡ 0
+  no-more zero e t q h = q
+  no-more (suc n) e t q h = let some : 0 < takes e t = omega arith in omega (arith, ap length (first-line e t some))
 
--- a block that is not the last may be run by itself: the rest is the run over what it leaves and what comes after it
-pub by-blocks : (m k : ℕ) (e : Bool) (t v o : List ℕ)
-    → (let d = runOf m false t [] in runOf (d .lines + k) e (t ++ v) o ≡ after (d .bytes) (d .lines) (d .used) (runOf k e (drop (d .used) t ++ v) (drop (d .lines * 19) o)))
-by-blocks m k e t v o =
-    continued (runOf m false t [] .lines) k e (t ++ v) o
-    ∙ rw (block m e t v [], drop-append-le (runOf m false t [] .used) t v (used-within m false t []))
+  -- with room for every line, what a run leaves holds none
+  pub all-answered : (m : ℕ) (e : Bool) (t o : List ℕ) → length (linesOf e t) ≤ m → takes e (drop (runBy f m e t o .used) t) ≡ 0
+  all-answered m e t o =
+      by-run f e (λ m t o d. length (linesOf e t) ≤ m → takes e (drop (d .used) t) ≡ 0) (λ t o l. no-more (takes e t) e t refl (omega arith)) (λ m t o q l. q)
+      (λ m t o d some h l. rw drop-drop at (h (omega (arith, ap length (first-line e t some))))) m t o
 
--- ---- two texts joined at a line's end
-
-no-more : (n : ℕ) (e : Bool) (t : List ℕ) → takes e t ≡ n → length (linesOf e t) ≡ 0 → takes e t ≡ 0
-no-more zero e t q h = q
-no-more (suc n) e t q h = let some : 0 < takes e t = omega arith in omega (arith, ap length (first-line e t some))
-
--- with room for every line, what a run leaves holds none
-pub all-answered : (m : ℕ) (e : Bool) (t o : List ℕ) → length (linesOf e t) ≤ m → takes e (drop (runOf m e t o .used) t) ≡ 0
-all-answered m e t o =
-    by-run e (λ m t o d. length (linesOf e t) ≤ m → takes e (drop (d .used) t) ≡ 0) (λ t o l. no-more (takes e t) e t refl (omega arith)) (λ m t o q l. q)
-    (λ m t o d some h l. rw drop-drop at (h (omega (arith, ap length (first-line e t some))))) m t o
-
-pub joined : (k : ℕ) (e : Bool) (s v o : List ℕ)
-    → (let t = s ++ (0x0A ∷ []) in
-    let n = length (linesOf false t) in
-    runOf (n + k) e (t ++ v) o ≡ after (runOf n false t [] .bytes) n (length t) (runOf k e v (drop (n * 19) o)))
-joined k e s v o =
-    let t = s ++ (0x0A ∷ []) in
-    let n = length (linesOf false t) in
-    let lines : runOf n false t [] .lines ≡ n = lines-answered n false t [] ∙ omega arith in
-    let used : runOf n false t [] .used ≡ length t = all-taken s _ (all-answered n false t [] (le-refl _)) (used-within n false t []) in
-    let none : drop (length t) t ≡ [] = drop-of-length-le t (le-refl _) in
-    rw (lines, used, none) at (by-blocks n k e t v o)
+  pub joined : (k : ℕ) (e : Bool) (s v o : List ℕ)
+      → (let t = s ++ (0x0A ∷ []) in
+      let n = length (linesOf false t) in
+      runBy f (n + k) e (t ++ v) o ≡ after (runBy f n false t [] .bytes) n (length t) (runBy f k e v (drop (n * 19) o)))
+  joined k e s v o =
+      let t = s ++ (0x0A ∷ []) in
+      let n = length (linesOf false t) in
+      let lines : runBy f n false t [] .lines ≡ n = lines-answered n false t [] ∙ omega arith in
+      let used : runBy f n false t [] .used ≡ length t = all-taken s _ (all-answered n false t [] (le-refl _)) (used-within n false t []) in
+      let none : drop (length t) t ≡ [] = drop-of-length-le t (le-refl _) in
+      rw (lines, used, none) at (by-blocks n k e t v o)

@@ -1,10 +1,10 @@
 -- A run over many lines, by recursion on how many answers there is room for. Assumes nothing.
-use mathlib.Core.Bool.{Bool, true, false, cond}
-use mathlib.Core.List.{List, [], _∷_, _++_}
+use mathlib.Core.Bool.{Bool, cond}
+use mathlib.Core.List.{List, _++_}
 use Prim.Native.Nat.{ℕ, zero, suc, _+_}
-use lib.Dec.{ltb}
-use lib.ListN.{length, take, drop}
-use Rattle.text.specs.Lines.{lineLength}
+use lib.Dec.{eqb}
+use lib.ListN.{drop}
+use Rattle.text.specs.Lines.{lineAt, takes}
 use Rattle.line.specs.One.{textOf}
 
 -- what a run leaves: the answer bytes, the lines answered and the bytes used
@@ -21,16 +21,15 @@ done bytes lines used = record { bytes = bytes; lines = lines; used = used }
 abbrev pub after : List ℕ → ℕ → ℕ → Done → Done
 after bytes lines used rest = done (bytes ++ rest .bytes) (lines + rest .lines) (used + rest .used)
 
--- a tail with no line feed is a line too where the text is at its end and the tail is not empty
-abbrev pub lastRun : Bool → List ℕ → List ℕ → Done
-lastRun false text out = done out 0 0
-lastRun true [] out = done out 0 0
-lastRun true (b ∷ text) out = done (textOf (b ∷ text) ++ drop 19 out) 1 (length (b ∷ text))
+-- the answer bytes of a line; room for so many answers; the mark that the text is at its end; the text; the answer bytes. The next line's answer,
+-- of 19 bytes, goes in first; the rest is a run over what follows that line. Bytes after the last answer are unchanged
+unfoldable pub runBy : (List ℕ → List ℕ) → ℕ → Bool → List ℕ → List ℕ → Done
+runBy answer zero atEnd text out = done out 0 0
+runBy answer (suc room) atEnd text out =
+    cond (eqb (takes atEnd text) 0)
+    (done out 0 0)
+    (after (answer (lineAt text 0)) 1 (takes atEnd text) (runBy answer room atEnd (drop (takes atEnd text) text) (drop 19 out)))
 
--- room for so many answers; the mark that the text is at its end; the text; the answer bytes. Bytes after the last answer are unchanged
-unfoldable pub runOf : ℕ → Bool → List ℕ → List ℕ → Done
-runOf zero atEnd text out = done out 0 0
-runOf (suc room) atEnd text out =
-    cond (ltb (lineLength text) (length text))
-    (after (textOf (take (lineLength text) text)) 1 (suc (lineLength text)) (runOf room atEnd (drop (suc (lineLength text)) text) (drop 19 out)))
-    (lastRun atEnd text out)
+-- the run that gives each line its answer by the table
+abbrev pub runOf : ℕ → Bool → List ℕ → List ℕ → Done
+runOf = runBy textOf

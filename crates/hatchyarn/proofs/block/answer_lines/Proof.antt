@@ -5,6 +5,7 @@ use native.Mathlib.Omega.{arith}
 use lib.ListN.{length, take, drop, length-drop}
 use lib.Seq.{length-take-le}
 use borrow.Author.Needs.{needs}
+use Rattle.line.specs.One.{textOf}
 use Rattle.line.proofs.RunLaws.{ran-within}
 use Rattle.hatchyarn.proofs.block.answer_lines.Statement.{statement}
 use Rattle.hatchyarn.proofs.block.answer_lines.Tie as tie
@@ -22,7 +23,7 @@ ran c =
     let text = c .before .before .before .before .before .before .before .args .text .now in
     let at-end = c .before .before .before .before .before .before .before .args .at-end in
     let part = take (length text - l .start) (drop (l .start) text) in
-    let w = ran-within (length (l .room) / 19) at-end part (l .room) (c .run .last .1 .0) (c .run .result .lines) (c .run .result .used) (c .run .ensures) in
+    let w = ran-within textOf (length (l .room) / 19) at-end part (l .room) (c .run .last .1 .0) (c .run .result .lines) (c .run .result .used) (c .run .ensures) in
     let n : length part ≡ length text - l .start = length-take-le _ (drop (l .start) text) (simp length-drop (omega arith)) in
     (omega arith, omega arith)
 

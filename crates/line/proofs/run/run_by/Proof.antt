@@ -1,16 +1,20 @@
 -- `line::run::run_by` meets its contract. The invariant: what is done, then the run over the rest, is the whole run. Assumes nothing.
 use mathlib.Core.Path.{_≡_, refl, ap, _∙_}
-use Prim.Native.Nat.{_+_, _-_, _*_, _/_, _≤_}
+use mathlib.Core.List.{List, _++_}
+use Prim.Native.Nat.{ℕ, _+_, _-_, _*_, _/_, _≤_}
 use native.Mathlib.Nat.{sub-zero, zero-add}
 use native.Mathlib.Omega.{arith}
 use lib.ListN.{length, take, drop, length-drop}
 use borrow.Author.Needs.{needs}
 use borrow.Rule.Slice.PartMut.{same-len-mid}
+use Rattle.text.specs.declared.fields.Read.{Read}
 use Rattle.text.specs.declared.found.Found.{Found}
-use Rattle.text.specs.Lines.{takes}
+use Rattle.text.specs.Fields.{readOf}
+use Rattle.text.specs.Lines.{lineAt, takes}
 use Rattle.text.proofs.NextLine.{takes-within, next-takes}
+use Rattle.line.specs.One.{answerBy, textBy, answerOf, textOf}
 use Rattle.line.specs.Run.{done, after, runOf}
-use Rattle.line.proofs.Turns.{stops, full, ended, again}
+use Rattle.line.proofs.Turns.{textOf-length, stops, full, ended, again}
 use Rattle.line.proofs.run.run_by.Statement.{statement}
 use Rattle.line.proofs.run.run_by.Tie as tie
 
@@ -23,6 +27,11 @@ abbrev μ-loop : tie.MeasureT-loop
 
 loop-holds : tie.Need-loop-holds Inv-loop μ-loop
 loop-holds c = (omega arith, omega arith, refl, refl, simp (sub-zero, zero-add))
+
+-- what is written for the line that was read is its answer
+line-answer : (text : List ℕ) (used : ℕ) (read : Read) (rest : List ℕ) → read ≡ readOf (lineAt text used) → textBy (answerBy read) ++ rest ≡ textOf (lineAt text used) ++ rest
+unfolding textOf answerOf
+line-answer text used read rest q = rw q
 
 -- where the next line starts
 next : (c : tie.After-next-start Inv-loop μ-loop)
@@ -45,20 +54,20 @@ loop-again c =
       omega (arith, next n, takes-within (a .at-end) rest, length-drop (l .used) (a .text .now)),
       refl,
       same-len-mid at k (l .out) (lent .last .1 .1 .0) (lent .kept .1 .1 .0) ∙ l .inv .3,
-      again (a .text .now) (l .out) (lent .last .1 .1 .0) (length (a .out .now) / 19) (l .answered) (l .used) (n .next-start .result) k (a .at-end) (n .before .read-at .result .read) (omega arith) (ap (λ (f : Found). f .read) (n .before .read-at .ensures)) (next n) (c .before .before .before .before .if1 .left) (omega arith) (omega arith) (lent .ensures .1) (l .inv .4),
+      again textOf textOf-length (a .text .now) (l .out) (lent .last .1 .1 .0) (length (a .out .now) / 19) (l .answered) (l .used) (n .next-start .result) k (a .at-end) (omega arith) (next n) (c .before .before .before .before .if1 .left) (omega arith) (omega arith) (lent .ensures .1 ∙ line-answer (a .text .now) (l .used) (n .before .read-at .result .read) _ (ap (λ (f : Found). f .read) (n .before .read-at .ensures))) (l .inv .4),
     )
 
 returns : tie.Need-returns Inv-loop μ-loop
 returns c =
     let l = c .before .loop in
     let a = c .before .before .before .before .args in
-    ended (l .out) (l .answered * 19) (l .answered) (l .used) (full (length (a .out .now) / 19 - l .answered) (a .at-end) (drop (l .used) (a .text .now)) (drop (l .answered * 19) (l .out)) (omega arith)) (l .inv .4)
+    ended (l .out) (l .answered * 19) (l .answered) (l .used) (full textOf (length (a .out .now) / 19 - l .answered) (a .at-end) (drop (l .used) (a .text .now)) (drop (l .answered * 19) (l .out)) (omega arith)) (l .inv .4)
 
 returns-2 : tie.Need-returns-2 Inv-loop μ-loop
 returns-2 c =
     let l = c .before .before .before .before .loop in
     let a = c .before .before .before .before .before .before .before .args in
-    ended (l .out) (l .answered * 19) (l .answered) (l .used) (stops (length (a .out .now) / 19 - l .answered) (a .at-end) (drop (l .used) (a .text .now)) (drop (l .answered * 19) (l .out)) (omega (arith, next (c .before)))) (l .inv .4)
+    ended (l .out) (l .answered * 19) (l .answered) (l .used) (stops textOf (length (a .out .now) / 19 - l .answered) (a .at-end) (drop (l .used) (a .text .now)) (drop (l .answered * 19) (l .out)) (omega (arith, next (c .before)))) (l .inv .4)
 
 pub run-by-spec : {M : Type 1} → statement M
 run-by-spec =
