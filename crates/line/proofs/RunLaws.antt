@@ -1,45 +1,35 @@
 -- What users of a run rely on. `continued`: a run cut short for room and continued from the bytes used gives the answers of the uncut run;
 -- with no room to go on, that bytes after the last answer are unchanged (`unchanged`). `by-blocks`: a block that is not the last may be run by
--- itself. `joined`: two texts joined at a line's end are run one after the other. `lines-answered`, `used-within`, `answers-length`: how far a run goes.
+-- itself. `joined`: two texts joined at a line's end are run one after the other. `lines-answered`, `used-within`: how far a run goes.
 -- Assumes nothing.
 use mathlib.Core.Path.{_≡_, refl, ap, _∙_}
 use mathlib.Core.Bool.{Bool, false}
 use mathlib.Core.List.{List, [], _∷_, _++_, append-assoc}
-use Prim.Native.Nat.{ℕ, zero, suc, _+_, _-_, _*_, _<_, _≤_, min}
+use Prim.Native.Nat.{ℕ, zero, suc, _+_, _*_, _<_, _≤_, min}
 use native.Mathlib.Nat.{zero-add, add-zero, add-assoc, suc-add, le-refl}
 use native.Mathlib.Omega.{arith}
-use lib.ListN.{length, drop, length-append, length-drop, drop-of-length-le}
+use lib.ListN.{length, drop, drop-of-length-le}
 use lib.Seq.{drop-append-le, drop-drop}
 use Rattle.text.specs.Lines.{lineAt, takes, linesOf}
-use Rattle.text.proofs.NextLine.{takes-within, no-line, first-line, same-line, same-takes, all-taken}
+use Rattle.text.proofs.NextLine.{takes-within, first-line, same-line, same-takes, all-taken}
 use Rattle.line.specs.Run.{Done, done, after, runBy}
+use Rattle.line.proofs.Places.{places}
 use Rattle.line.proofs.Turns.{stops, full, goes, by-run}
 
 module _ (f : List ℕ → List ℕ) where
   -- ---- how far a run goes
 
   pub lines-answered : (m : ℕ) (e : Bool) (t o : List ℕ) → runBy f m e t o .lines ≡ min m (length (linesOf e t))
-  lines-answered m e t o =
-      by-run f e (λ m t o d. d .lines ≡ min m (length (linesOf e t))) (λ t o. omega arith) (λ m t o q. omega (arith, ap length (no-line e t q)))
-      (λ m t o d some h. omega (arith, ap length (first-line e t some))) m t o
+  lines-answered m e t o = ap (λ (d : Done). d .lines) (places f m e t o)
 
   pub used-within : (m : ℕ) (e : Bool) (t o : List ℕ) → runBy f m e t o .used ≤ length t
-  used-within m e t o =
-      by-run f e (λ m t o d. d .used ≤ length t) (λ t o. omega arith) (λ m t o q. omega arith)
-      (λ m t o d some h. omega (arith, takes-within e t, length-drop (takes e t) t)) m t o
-
-  -- 19 bytes for each line, and what the answers left of the answer bytes
-  pub answers-length : ((line : List ℕ) → length (f line) ≡ 19) → (m : ℕ) (e : Bool) (t o : List ℕ) → length (runBy f m e t o .bytes) ≡ runBy f m e t o .lines * 19 + (length o - runBy f m e t o .lines * 19)
-  answers-length f-length m e t o =
-      by-run f e (λ m t o d. length (d .bytes) ≡ d .lines * 19 + (length o - d .lines * 19)) (λ t o. omega arith) (λ m t o q. omega arith)
-      (λ m t o d some h. omega (arith, f-length (lineAt t 0), length-append (f (lineAt t 0)) (d .bytes), length-drop 19 o)) m t o
+  used-within m e t o = omega (arith, ap (λ (d : Done). d .used) (places f m e t o))
 
   -- what a caller has of a run's contract: no more lines than there is room for, no more bytes than there are
   pub ran-within : (m : ℕ) (e : Bool) (t o bytes : List ℕ) (lines used : ℕ) → done bytes lines used ≡ runBy f m e t o → (lines ≤ m) × (used ≤ length t)
   ran-within m e t o bytes lines used q =
-      let l : lines ≡ runBy f m e t o .lines = ap (λ (d : Done). d .lines) q in
-      let u : used ≡ runBy f m e t o .used = ap (λ (d : Done). d .used) q in
-      (omega (arith, l, lines-answered m e t o), omega (arith, u, used-within m e t o))
+      let p = q ∙ places f m e t o in
+      (omega (arith, ap (λ (d : Done). d .lines) p), omega (arith, ap (λ (d : Done). d .used) p))
 
   -- ---- a run, and then more of it
 

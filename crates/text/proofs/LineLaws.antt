@@ -26,7 +26,7 @@ shorter : (x : Bool) (n m : ℕ) → n ≤ m → cond x 0 (suc n) ≤ suc m
 shorter true n m h = omega arith
 shorter false n m h = omega arith
 
-length-within : (text : List ℕ) → lineLength text ≤ length text
+pub length-within : (text : List ℕ) → lineLength text ≤ length text
 length-within [] = le-refl 0
 length-within (b ∷ text) = shorter (eqb b 0x0A) (lineLength text) (length text) (length-within text)
 

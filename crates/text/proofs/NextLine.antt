@@ -3,14 +3,15 @@
 use mathlib.Core.Path.{_≡_, refl, ap, _∙_}
 use mathlib.Core.Bool.{Bool, true, false, cond}
 use mathlib.Core.List.{List, [], _∷_, _++_}
-use Prim.Native.Nat.{ℕ, suc, _+_, _<_, _≤_}
+use Prim.Native.Nat.{ℕ, suc, _+_, _<_, _≤_, min}
 use native.Mathlib.Nat.{le-refl, le-of-suc-le-suc, not-suc-le-zero}
 use native.Mathlib.Omega.{arith}
 use lib.Dec.{leb, ltb, eqb, lit<}
 use lib.ListN.{length, take, drop, length-append, length-drop, drop-of-length-le}
-use lib.Seq.{take-all, take-append-le, drop-append-le}
+use lib.Seq.{take-all, length-take-le, take-append-le, drop-append-le}
 use borrow.Author.Tests.{lt-ltb, le-ltb, ltb-true, ltb-false, leb-true, leb-false}
-use Rattle.text.specs.Lines.{lineLength, lineEnd, nextOf, takes, withByte, linesOf}
+use Rattle.text.specs.Lines.{lineLength, lineAt, lineEnd, nextOf, takes, withByte, linesOf}
+use Rattle.text.proofs.LineLaws.{length-within}
 
 take-by : (x e : Bool) (t : List ℕ) → ltb (lineLength t) (length t) ≡ x → cond x (suc (lineLength t)) (cond e (length t) 0) ≤ length t
 take-by true e t q = ltb-true _ _ q
@@ -19,6 +20,16 @@ take-by false false t q = omega arith
 
 pub takes-within : (e : Bool) (t : List ℕ) → takes e t ≤ length t
 takes-within e t = take-by (ltb (lineLength t) (length t)) e t refl
+
+-- a first line's bytes and its line feed, as far as the text goes
+size-by : (x e : Bool) (l n : ℕ) → ltb l n ≡ x → 0 < cond x (suc l) (cond e n 0) → cond x (suc l) (cond e n 0) ≡ min (suc l) n
+size-by true e l n q h = omega (arith, ltb-true l n q)
+size-by false true l n q h = omega (arith, ltb-false l n q)
+size-by false false l n q h = absurd (not-suc-le-zero h)
+
+pub first-takes : (e : Bool) (t : List ℕ) → 0 < takes e t → takes e t ≡ min (suc (length (lineAt t 0))) (length t)
+first-takes e t h =
+    rw (length-take-le (lineLength t) t (length-within t)) (size-by (ltb (lineLength t) (length t)) e (lineLength t) (length t) refl h)
 
 -- the next line of a whole text
 module _ (text : List ℕ) (used end : ℕ) (e : Bool) (inside : used ≤ length text) (is-end : end ≡ lineEnd text used) where
@@ -93,7 +104,7 @@ first-by false true (b ∷ t) q h =
     ∙ rw (take-all (lineLength (b ∷ t)) (b ∷ t) no-feed, drop-of-length-le (b ∷ t) {i = length (b ∷ t)} (le-refl _))
 
 -- else the first line, and those of what follows it
-pub first-line : (e : Bool) (t : List ℕ) → 0 < takes e t → linesOf e t ≡ take (lineLength t) t ∷ linesOf e (drop (takes e t) t)
+pub first-line : (e : Bool) (t : List ℕ) → 0 < takes e t → linesOf e t ≡ lineAt t 0 ∷ linesOf e (drop (takes e t) t)
 first-line e t h = first-by (ltb (lineLength t) (length t)) e t refl h
 
 -- ---- a text before another
@@ -116,7 +127,7 @@ feed-in-first (b ∷ t) v h = same-by (eqb b 0x0A) _ (length t) _ (feed-in-first
 
 -- so the whole starts with the first's first line
 module _ (e : Bool) (t v : List ℕ) (some : 0 < takes false t) where
-  pub same-line : take (lineLength (t ++ v)) (t ++ v) ≡ take (lineLength t) t
+  pub same-line : lineAt (t ++ v) 0 ≡ lineAt t 0
   same-line = let f : lineLength t < length t = has-feed t some in rw (feed-in-first t v f) (take-append-le (lineLength t) t v (omega arith))
 
   pub same-takes : takes e (t ++ v) ≡ takes false t

@@ -43,3 +43,8 @@ withByte false b [] = []
 abbrev pub linesOf : Bool → List ℕ → List (List ℕ)
 linesOf atEnd [] = []
 linesOf atEnd (b ∷ text) = cond (eqb b 0x0A) ([] ∷ linesOf atEnd text) (withByte atEnd b (linesOf atEnd text))
+
+-- how many bytes lines are, with a line feed after each
+abbrev pub bytesIn : List (List ℕ) → ℕ
+bytesIn [] = 0
+bytesIn (line ∷ lines) = suc (length line) + bytesIn lines

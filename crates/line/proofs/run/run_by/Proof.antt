@@ -13,7 +13,7 @@ use Rattle.text.specs.Fields.{readOf}
 use Rattle.text.specs.Lines.{lineAt, takes}
 use Rattle.text.proofs.NextLine.{takes-within, next-takes}
 use Rattle.line.specs.One.{answerBy, textBy, answerOf, textOf}
-use Rattle.line.specs.Run.{done, after, runOf}
+use Rattle.line.specs.Run.{after, runOf}
 use Rattle.line.proofs.Turns.{textOf-length, stops, full, ended, again}
 use Rattle.line.proofs.run.run_by.Statement.{statement}
 use Rattle.line.proofs.run.run_by.Tie as tie
