@@ -17,7 +17,7 @@ use Rattle.line.specs.Run.{Done, done, after, runBy}
 
 pub textOf-length : (line : List ℕ) → length (textOf line) ≡ 19
 unfolding textOf
-textOf-length line = written-length _ _ _ _ _
+textOf-length line = written-length _ _ _ _ _ _
 
 -- ---- one line more, or none
 

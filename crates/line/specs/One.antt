@@ -4,6 +4,7 @@ use mathlib.Core.List.{List, _++_}
 use Prim.Native.Nat.{ℕ}
 use lib.Dec.{ltb}
 use lib.ListN.{length, drop}
+use Rattle.text.specs.Digits.{capitalOf}
 use Rattle.text.specs.Fields.{readOf}
 use Rattle.text.specs.Written.{written}
 use Rattle.text.specs.declared.fields.Fields.{Fields}
@@ -24,7 +25,7 @@ answerOf line = answerBy (readOf line)
 
 -- the 19 bytes of a line's answer
 abbrev pub textBy : Answer → List ℕ
-textBy a = written (a .status) (a .flags) (a .steps) (a .r) (a .s)
+textBy a = written capitalOf (a .status) (a .flags) (a .steps) (a .r) (a .s)
 
 -- the 19 bytes of what a line is answered
 unfoldable pub textOf : List ℕ → List ℕ

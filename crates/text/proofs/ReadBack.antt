@@ -1,5 +1,5 @@
--- What is written is read as the same number: an answer line is 19 bytes, its digits read back give what was written, and small letters
--- read as capitals do. Assumes nothing.
+-- What is written is read as the same number: an answer line is 19 bytes, and its digits read back give what was written, in any letters that are
+-- read as their digits. Capitals are such, and small letters read as capitals do. Assumes nothing.
 use mathlib.Core.Path.{_≡_, refl}
 use mathlib.Core.Bool.{Bool, true, false, cond}
 use Prim.Native.Nat.{ℕ, _+_, _*_, _/_, _%_, _<_, _≤_}
@@ -11,9 +11,9 @@ use Rattle.text.specs.Digits.{digitOf, capitalOf}
 use Rattle.text.specs.Fields.{fourOf, fourAt}
 use Rattle.text.specs.Written.{four, written}
 
-pub written-length : (status flags steps r s : ℕ) → length (written status flags steps r s) ≡ 19
+pub written-length : (letter : ℕ → ℕ) (status flags steps r s : ℕ) → length (written letter status flags steps r s) ≡ 19
 unfolding written
-written-length status flags steps r s = refl
+written-length letter status flags steps r s = refl
 
 -- ---- one digit
 
@@ -53,35 +53,36 @@ digit-read k h = by (ltb k 10) refl
     by true e = figure k (ltb-true _ _ e)
     by false e = capital-letter k (ltb-false _ _ e) h
 
--- ---- four digits, and a line of them
+-- ---- four digits, and a line of them, in letters that are read as their digits
 
-pub four-read : (k : ℕ) → k < 0x1_0000 → fourAt (four k) 0 ≡ k
-unfolding fourAt fourOf
-four-read k h =
-    let a : k / 0x1000 < 16 = omega arith in
-    let b : k / 0x100 % 16 < 16 = omega arith in
-    let c : k / 0x10 % 16 < 16 = omega arith in
-    let d : k % 16 < 16 = omega arith in
-    simp (digit-read _ a, digit-read _ b, digit-read _ c, digit-read _ d, lt-ltb _ _ a, lt-ltb _ _ b, lt-ltb _ _ c, lt-ltb _ _ d) (omega arith)
+module _ (letter : ℕ → ℕ) (reads : (k : ℕ) → k < 16 → digitOf (letter k) ≡ k) where
+  pub four-read : (k : ℕ) → k < 0x1_0000 → fourAt (four letter k) 0 ≡ k
+  unfolding fourAt fourOf
+  four-read k h =
+      let a : k / 0x1000 < 16 = omega arith in
+      let b : k / 0x100 % 16 < 16 = omega arith in
+      let c : k / 0x10 % 16 < 16 = omega arith in
+      let d : k % 16 < 16 = omega arith in
+      simp (reads _ a, reads _ b, reads _ c, reads _ d, lt-ltb _ _ a, lt-ltb _ _ b, lt-ltb _ _ c, lt-ltb _ _ d) (omega arith)
 
-module _ (status flags steps r s : ℕ) where
-  pub status-read : status < 0x100
-      → digitOf (getD (written status flags steps r s) 0 0) * 16 + digitOf (getD (written status flags steps r s) 1 0) ≡ status
-  unfolding written
-  status-read h = simp (digit-read (status / 16) (omega arith), digit-read (status % 16) (omega arith)) (omega arith)
+  module _ (status flags steps r s : ℕ) where
+    pub status-read : status < 0x100
+        → digitOf (getD (written letter status flags steps r s) 0 0) * 16 + digitOf (getD (written letter status flags steps r s) 1 0) ≡ status
+    unfolding written
+    status-read h = simp (reads (status / 16) (omega arith), reads (status % 16) (omega arith)) (omega arith)
 
-  pub flags-read : flags < 0x1_0000 → fourAt (written status flags steps r s) 2 ≡ flags
-  unfolding written fourAt
-  flags-read h = four-read flags h
+    pub flags-read : flags < 0x1_0000 → fourAt (written letter status flags steps r s) 2 ≡ flags
+    unfolding written fourAt
+    flags-read h = four-read flags h
 
-  pub steps-read : steps < 0x1_0000 → fourAt (written status flags steps r s) 6 ≡ steps
-  unfolding written fourAt
-  steps-read h = four-read steps h
+    pub steps-read : steps < 0x1_0000 → fourAt (written letter status flags steps r s) 6 ≡ steps
+    unfolding written fourAt
+    steps-read h = four-read steps h
 
-  pub r-read : r < 0x1_0000 → fourAt (written status flags steps r s) 10 ≡ r
-  unfolding written fourAt
-  r-read h = four-read r h
+    pub r-read : r < 0x1_0000 → fourAt (written letter status flags steps r s) 10 ≡ r
+    unfolding written fourAt
+    r-read h = four-read r h
 
-  pub s-read : s < 0x1_0000 → fourAt (written status flags steps r s) 14 ≡ s
-  unfolding written fourAt
-  s-read h = four-read s h
+    pub s-read : s < 0x1_0000 → fourAt (written letter status flags steps r s) 14 ≡ s
+    unfolding written fourAt
+    s-read h = four-read s h

@@ -4,7 +4,7 @@ ghost use mathlib.Core.List.{_++_};
 ghost use Prim.Native.Nat.{_+_, _≤_};
 ghost use lib.ListN.{length, drop};
 ghost use lib.Seq.{sets};
-ghost use Rattle.text.specs.Digits.{CapitalTable};
+ghost use Rattle.text.specs.Digits.{CapitalTable, capitalOf};
 ghost use Rattle.text.specs.Written.{four, written};
 use crate::digits;
 
@@ -12,7 +12,7 @@ use crate::digits;
 fn put_four(table: &[u8; 16], number: u16, out: &mut [u8], at: usize)
     requires { ⌜ CapitalTable (now table) ⌝ }
     requires { ⌜ at + 4 ≤ length (now out) ⌝ }
-    ensures { λ _. ⌜ now (out .exit) ≡ sets (now (out .entry)) at (four number) ⌝ }
+    ensures { λ _. ⌜ now (out .exit) ≡ sets (now (out .entry)) at (four capitalOf number) ⌝ }
 {
     out[at] = digits::capital(table, number / 0x1000);
     out[at + 1] = digits::capital(table, number / 0x100 % 0x10);
@@ -24,7 +24,7 @@ fn put_four(table: &[u8; 16], number: u16, out: &mut [u8], at: usize)
 pub fn write(table: &[u8; 16], status: u8, flags: u16, steps: u16, r: u16, s: u16, out: &mut [u8])
     requires { ⌜ CapitalTable (now table) ⌝ }
     requires { ⌜ 19 ≤ length (now out) ⌝ }
-    ensures { λ _. ⌜ now (out .exit) ≡ written status flags steps r s ++ drop 19 (now (out .entry)) ⌝ }
+    ensures { λ _. ⌜ now (out .exit) ≡ written capitalOf status flags steps r s ++ drop 19 (now (out .entry)) ⌝ }
 {
     out[0] = digits::capital(table, (status / 0x10) as u16);
     out[1] = digits::capital(table, (status % 0x10) as u16);

@@ -12,18 +12,18 @@ use Rattle.text.proofs.written.write.Statement.{statement}
 use Rattle.text.proofs.written.write.Tie as tie
 
 -- what stands after each group, and at the end
-stored : (status flags steps r s : ℕ) (out : List ℕ) {a b : ℕ} {upTo6 upTo10 upTo14 upTo18 : List ℕ}
+stored : (letter : ℕ → ℕ) (status flags steps r s : ℕ) (out : List ℕ) {a b : ℕ} {upTo6 upTo10 upTo14 upTo18 : List ℕ}
     → 19 ≤ length out
-    → a ≡ capitalOf (status / 16)
-    → b ≡ capitalOf (status % 16)
-    → upTo6 ≡ sets (set (set out 0 a) 1 b) 2 (four flags)
-    → upTo10 ≡ sets upTo6 6 (four steps)
-    → upTo14 ≡ sets upTo10 10 (four r)
-    → upTo18 ≡ sets upTo14 14 (four s)
-    → set upTo18 18 0x0A ≡ written status flags steps r s ++ drop 19 out
+    → a ≡ letter (status / 16)
+    → b ≡ letter (status % 16)
+    → upTo6 ≡ sets (set (set out 0 a) 1 b) 2 (four letter flags)
+    → upTo10 ≡ sets upTo6 6 (four letter steps)
+    → upTo14 ≡ sets upTo10 10 (four letter r)
+    → upTo18 ≡ sets upTo14 14 (four letter s)
+    → set upTo18 18 0x0A ≡ written letter status flags steps r s ++ drop 19 out
 unfolding written
-stored status flags steps r s out h ea eb e6 e10 e14 e18 =
-    rw (e18, e14, e10, e6, ea, eb) (sets-eq (written status flags steps r s) out 0 h)
+stored letter status flags steps r s out h ea eb e6 e10 e14 e18 =
+    rw (e18, e14, e10, e6, ea, eb) (sets-eq (written letter status flags steps r s) out 0 h)
 
 -- each group leaves the room as long as it came
 long : (c : tie.After-put-four) → length (c .put-four .last .1 .1 .0) ≡ length (c .before .before .before .before .before .args .out .now)
@@ -45,7 +45,7 @@ returns c =
     let g2 = g3 .before .before .before .before in
     let g1 = g2 .before .before .before .before in
     let a = g1 .before .before .before .before .before in
-    stored (a .args .status) (a .args .flags) (a .args .steps) (a .args .r) (a .args .s) (a .args .out .now) (a .pre .1)
+    stored capitalOf (a .args .status) (a .args .flags) (a .args .steps) (a .args .r) (a .args .s) (a .args .out .now) (a .pre .1)
     (g1 .before .before .before .capital .ensures)
     (g1 .before .before .capital2 .ensures)
     (g1 .put-four .ensures)
