@@ -31,7 +31,8 @@ fn four(a: u8, b: u8, c: u8, d: u8) -> u32
     0x1_0000
 }
 
-fn four_at(table: &[u8; 256], line: &[u8], at: usize) -> u32
+// The number of the four digits from `at` on; 65,536 where one of them is none.
+pub fn four_at(table: &[u8; 256], line: &[u8], at: usize) -> u32
     requires { ⌜ DigitTable (now table) ⌝ }
     requires { ⌜ at + 4 ≤ length (now line) ⌝ }
     ensures { λ r. ⌜ r ≡ fourAt (now (line .entry)) at ⌝ }
