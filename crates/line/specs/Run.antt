@@ -21,8 +21,8 @@ done bytes lines used = record { bytes = bytes; lines = lines; used = used }
 abbrev pub after : List ℕ → ℕ → ℕ → Done → Done
 after bytes lines used rest = done (bytes ++ rest .bytes) (lines + rest .lines) (used + rest .used)
 
--- the answer bytes of a line; room for so many answers; the mark that the text is at its end; the text; the answer bytes. The next line's answer,
--- of 19 bytes, goes in first; the rest is a run over what follows that line. Bytes after the last answer are unchanged
+-- how a line is answered, in 19 bytes; room for so many answers; the mark that the text is at its end; the text; the answer bytes. The next line's
+-- answer goes in first; the rest is a run over what follows that line. Bytes after the last answer are unchanged
 unfoldable pub runBy : (List ℕ → List ℕ) → ℕ → Bool → List ℕ → List ℕ → Done
 runBy answer zero atEnd text out = done out 0 0
 runBy answer (suc room) atEnd text out =
@@ -30,6 +30,6 @@ runBy answer (suc room) atEnd text out =
     (done out 0 0)
     (after (answer (lineAt text 0)) 1 (takes atEnd text) (runBy answer room atEnd (drop (takes atEnd text) text) (drop 19 out)))
 
--- the run that gives each line its answer by the table
+-- the run that answers each line by the table of statuses
 abbrev pub runOf : ℕ → Bool → List ℕ → List ℕ → Done
 runOf = runBy textOf

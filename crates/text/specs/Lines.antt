@@ -33,7 +33,7 @@ nextOf from end size atEnd = cond (ltb end size) (suc end) (cond atEnd size from
 abbrev pub takes : Bool → List ℕ → ℕ
 takes atEnd text = nextOf 0 (lineLength text) (length text) atEnd
 
--- a byte that is no line feed, before these lines: it begins the first of them. Before none it is a tail: a line with the mark, none without
+-- these lines with a byte before them that is no line feed: it begins the first. Where there is none it is a tail: a line with the mark, else none
 abbrev pub withByte : Bool → ℕ → List (List ℕ) → List (List ℕ)
 withByte atEnd b (line ∷ lines) = (b ∷ line) ∷ lines
 withByte true b [] = (b ∷ []) ∷ []
