@@ -21,6 +21,9 @@ module _ {M : Type 1} where
   pub digits-capital : Tight M digits.capital.signature digits.capital.clauses
   digits-capital c g r s = plainly (c .𝓤) (λ e d. (same e d, refl))
 
+  pub fields-four-at : Tight M fields.four_at.signature fields.four_at.clauses
+  fields-four-at c g r s = plainly (c .𝓤) (λ e d. (same e d, refl))
+
   pub fields-fields-at : Tight M fields.fields_at.signature fields.fields_at.clauses
   fields-fields-at c g r s = plainly (c .𝓤) (λ e d. (same e d, refl))
 
@@ -32,6 +35,9 @@ module _ {M : Type 1} where
 
   pub lines-line-end : Tight M lines.line_end.signature lines.line_end.clauses
   lines-line-end c g r s = plainly (c .𝓤) (λ e d. (same e d, refl))
+
+  pub lines-next-start : Tight M lines.next_start.signature lines.next_start.clauses
+  lines-next-start c g r s = plainly (c .𝓤) (λ e d. (same e d, refl))
 
   pub written-write : Tight M written.write.signature written.write.clauses
   written-write c g r s = plainly (c .𝓤) (λ e d. (refl, λ i. (tt, (tt, (tt, (tt, (tt, (tt, (same e d i, tt)))))))))
