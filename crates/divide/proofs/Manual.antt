@@ -115,6 +115,7 @@ module _ (z w q r : ℤ) (h : Division z w q r) where
   quotient-magnitude : natAbs z / natAbs w ≡ natAbs q
   quotient-magnitude = ap (λ (x : ℕ). x / natAbs w) (sym (magnitudes .1)) ∙ digits-div (natAbs q) (h .smaller)
 
+  -- there is one quotient: that cut towards zero
   pub quotient-determined : q ≡ quotZ z w
   quotient-determined = sign-of q ∙ by (magnitudes .0) ∙ sym quotient
     where
@@ -128,6 +129,7 @@ module _ (z w q r : ℤ) (h : Division z w q r) where
       by (inl e) = ap (signOf (negative q)) e ∙ zeros (negative q) (xor (negative z) (negative w)) ∙ ap (signOf (xor (negative z) (negative w))) (sym e)
       by (inr e) = ap (λ (s : Bool). signOf s (natAbs q)) e
 
+  -- and one remainder
   pub remainder-determined : r ≡ remZ z w
   remainder-determined =
       with-sign z r (h .sign)
@@ -152,6 +154,7 @@ sign-kept true zero = inl refl
 sign-kept true (suc k) = inr refl
 sign-kept false k = inr refl
 
+-- of every dividend, by a divisor that is not 0
 pub division-holds : (z w : ℤ) → 0 < natAbs w → Division z w (quotZ z w) (remZ z w)
 division-holds z w pos-w = record { whole = whole; smaller = smaller; sign = sign }
   where
@@ -177,9 +180,9 @@ division-holds z w pos-w = record { whole = whole; smaller = smaller; sign = sig
     sign : (natAbs (remZ z w) ≡ 0) ⊎ (negative (remZ z w) ≡ negative z)
     sign = subst⁻¹ (λ (r : ℤ). (natAbs r ≡ 0) ⊎ (negative r ≡ negative z)) remainder (sign-kept (negative z) (natAbs z % natAbs w))
 
--- ---- the manual's range of quotients, and what is refused by it
+-- ---- the manual's range of quotients, and what is accepted by it
 
--- at most one less is below
+-- at most m is below the next
 below-next : (k m t : ℕ) → suc m ≡ t → leb k m ≡ ltb k t
 below-next k m t e = same-test (leb k m) (ltb k t) (λ h. lt-ltb k t (omega (arith, leb-true k m h))) (λ h. le-ltb k t (omega (arith, leb-false k m h)))
 
@@ -190,11 +193,11 @@ from-minus zero (negsuc k) = sym (lt-leb (suc k) 0 (omega arith))
 from-minus (suc m) (pos k) = refl
 from-minus (suc m) (negsuc k) = and-true (leb k m) ∙ sym (leb·suc-suc k m)
 
--- a signed quotient is in range if its magnitude is below the top bit
+-- a signed quotient is in range exactly if its magnitude is below the top bit
 pub range-signed : (n : ℕ) (z : ℤ) → inRange n true z ≡ ltb (natAbs z) (top n)
 range-signed n z = from-minus (largestQuotient n true) z ∙ below-next (natAbs z) (largestQuotient n true) (top n) (omega (arith, pow-pos (n - 1)))
 
--- another if it fits n bits
+-- an unsigned one exactly if it fits n bits
 pub range-unsigned : (n k : ℕ) → inRange n false (pos k) ≡ ltb k (2 ^ n)
 range-unsigned n k = rw (le-leb 0 k (omega arith)) (below-next k (largestQuotient n false) (2 ^ n) (omega (arith, pow-pos n)))
 

@@ -14,7 +14,7 @@ use Rattle.multiply.specs.Multiply.{negates, multiply}
 use Rattle.multiply.proofs.CarryLaws.{size-lt, productValue-is, manual-rule}
 
 module _ (n x y : ℕ) (f : Flags) (hn : 0 < n) (hx : x < 2 ^ n) (hy : y < 2 ^ n) where
-  -- without REP the 2n bits of the product, read as a number, are x times y
+  -- without REP the 2n bits of the product, read as a number, are x times y, signed or not
   pub manual-product : (s : Bool) → valued s (n + n) (multiply n s false x y f .product) ≡ valued s n x *ℤ valued s n y
   unfolding multiply
   manual-product true =
@@ -23,7 +23,7 @@ module _ (n x y : ℕ) (f : Flags) (hn : 0 < n) (hx : x < 2 ^ n) (hy : y < 2 ^ n
       signed-wrapped (n + n) (valued true n x *ℤ valued true n y) (omega arith) (omega (arith, size-lt n false x y hn hx hy, top-double n hn, magnitude))
   manual-product false = ap pos (wrapped-sign (n + n) false (x * y) (product-lt n hx hy))
 
-  -- C and O say whether the upper half of what is returned holds digits of it
+  -- C and O say of the upper half of what is returned, with REP or without, what the manual says
   pub manual-carries : (s rep : Bool) → (multiply n s rep x y f .flags .carry ≡ significant n s (multiply n s rep x y f .product))
       × (multiply n s rep x y f .flags .overflow ≡ significant n s (multiply n s rep x y f .product))
   unfolding multiply szp
