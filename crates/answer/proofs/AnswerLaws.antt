@@ -11,7 +11,7 @@ use Rattle.multiply.specs.Multiply.{multiply}
 use Rattle.divide.specs.Divide.{DivideOutcome, Divided, divide}
 use Rattle.bcd.specs.declared.adjust.Adjusted.{Adjusted}
 use Rattle.request.specs.Limits.{largest, dividendMost, rightMost, adjustMost}
-use Rattle.request.specs.Judge.{judged}
+use Rattle.request.specs.Judge.{Raw, judged}
 use Rattle.request.specs.declared.operation.Width.{Width}
 use Rattle.request.specs.declared.operation.Width.the-variants.{Byte, Word}
 use Rattle.request.specs.declared.operation.Mode.{Mode}
@@ -161,6 +161,6 @@ module _ (request : Request) (fits : InRange (request .operation) (request .x) (
       by-operation told (p ∙ ap₂ (λ (u v : ℕ). ofAdjusted (adjustOf decimal u v (request .flags))) x y)
 
 -- what the judge told, and what the arm answered
-pub asked-as : (op mode flags x y : ℕ) {j k : Judged} → j ≡ judged op mode flags x y → j ≡ k → {a : Answer} → a ≡ ofJudged k → a ≡ asked op mode flags x y
+pub asked-as : (r : Raw) {j k : Judged} → j ≡ judged r → j ≡ k → {a : Answer} → a ≡ ofJudged k → a ≡ asked r
 unfolding asked
-asked-as op mode flags x y e told p = p ∙ ap ofJudged (sym told ∙ e)
+asked-as r e told p = p ∙ ap ofJudged (sym told ∙ e)

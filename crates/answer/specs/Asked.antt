@@ -1,6 +1,7 @@
 -- The answer to a raw request: the table of statuses from 3 on. Assumes nothing.
 use mathlib.Core.List.{List, [], _∷_}
 use Prim.Native.Nat.{ℕ}
+pub use Rattle.request.specs.Judge.{Raw, raw}
 use Rattle.request.specs.Judge.{judged}
 use Rattle.request.specs.declared.judge.Judged.{Judged}
 use Rattle.request.specs.declared.judge.Judged.the-variants.{Admitted, Unlisted, WrongMode, TooLarge}
@@ -19,12 +20,12 @@ ofJudged WrongMode = zeros 4
 ofJudged TooLarge = zeros 5
 
 -- judged, then answered
-unfoldable pub asked : ℕ → ℕ → ℕ → ℕ → ℕ → Answer
-asked op mode flags x y = ofJudged (judged op mode flags x y)
+unfoldable pub asked : Raw → Answer
+asked r = ofJudged (judged r)
 
 -- in parts: the status
 abbrev pub statusOf : ℕ → ℕ → ℕ → ℕ → ℕ → ℕ
-statusOf op mode flags x y = asked op mode flags x y .status
+statusOf op mode flags x y = asked (raw op mode flags x y) .status
 
 -- flags, steps, R and S, in the order of an answer line
 abbrev pub parts : Answer → List ℕ
@@ -32,4 +33,4 @@ parts a = a .flags ∷ a .steps ∷ a .r ∷ a .s ∷ []
 
 -- those of the answer to a raw request
 abbrev pub partsOf : ℕ → ℕ → ℕ → ℕ → ℕ → List ℕ
-partsOf op mode flags x y = parts (asked op mode flags x y)
+partsOf op mode flags x y = parts (asked (raw op mode flags x y))

@@ -2,6 +2,7 @@
 ghost use mathlib.Core.Path.{_≡_};
 ghost use Prim.Native.Nat.{_≤_};
 ghost use Rattle.request.specs.Limits.{largest, dividendMost, xMost, yMost};
+ghost use Rattle.request.specs.Judge.{raw};
 ghost use Rattle.answer.specs.Charted.{multipliedOf, dividedOf, charted};
 ghost use Rattle.answer.specs.Asked.{zeros, asked, statusOf, partsOf};
 use crate::alu_answer;
@@ -112,7 +113,7 @@ pub fn refused(status: u8) -> Answer
 
 // The table of statuses from 3 on.
 pub fn ask(op: u8, mode: u8, flags: u16, x: u32, y: u16) -> Answer
-    ensures { λ a. ⌜ a ≡ asked op mode flags x y ⌝ }
+    ensures { λ a. ⌜ a ≡ asked (raw op mode flags x y) ⌝ }
 {
     match judge::judge(op, mode, flags, x, y) {
         Judged::Admitted(request) => answer_request(request),

@@ -10,12 +10,16 @@ use Rattle.text.specs.Written.{written}
 use Rattle.text.specs.declared.fields.Fields.{Fields}
 use Rattle.text.specs.declared.fields.Read.{Read}
 use Rattle.text.specs.declared.fields.Read.the-variants.{Fields as OfFields, Length, Digit}
-use Rattle.answer.specs.Asked.{zeros, asked}
+use Rattle.answer.specs.Asked.{Raw, raw, zeros, asked}
 use Rattle.answer.specs.declared.answer.Answer.{Answer}
+
+-- the fields of a line as a raw request
+abbrev pub rawOf : Fields → Raw
+rawOf f = raw (f .op) (f .mode) (f .flags) (f .x) (f .y)
 
 -- what a line that was read is answered: status 1, status 2, or by the rest of the table
 abbrev pub answerBy : Read → Answer
-answerBy (OfFields f) = asked (f .op) (f .mode) (f .flags) (f .x) (f .y)
+answerBy (OfFields f) = asked (rawOf f)
 answerBy Length = zeros 1
 answerBy Digit = zeros 2
 

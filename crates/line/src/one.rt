@@ -5,7 +5,7 @@ ghost use Prim.Native.Nat.{_≤_, _<_};
 ghost use lib.ListN.{length, drop};
 ghost use Rattle.answer.specs.Asked.{asked};
 ghost use Rattle.text.specs.Digits.{CapitalTable};
-ghost use Rattle.line.specs.One.{answerBy, textBy, statusIn, answered};
+ghost use Rattle.line.specs.One.{rawOf, answerBy, textBy, statusIn, answered};
 use answer::answer::Answer;
 use answer::ask;
 use text::digits;
@@ -15,7 +15,7 @@ use text::fields::Read;
 use text::written;
 
 fn answer_fields(f: Fields) -> Answer
-    ensures { λ a. ⌜ a ≡ asked (f .op) (f .mode) (f .flags) (f .x) (f .y) ⌝ }
+    ensures { λ a. ⌜ a ≡ asked (rawOf f) ⌝ }
 {
     let mut parts = [0u16; 4];
     let status = ask::ask_into(f.op, f.mode, f.flags, f.x, f.y, &mut parts);

@@ -12,7 +12,7 @@ use Rattle.flags.specs.declared.word.Flags.{Flags}
 use Rattle.flags.proofs.Masks.{mask-bit}
 use Rattle.request.specs.Operation.{lookup, listed, widthOf, checked, operationOf}
 use Rattle.request.specs.Limits.{xMost, yMost}
-use Rattle.request.specs.Judge.{inLimits, requestOf, judgedBy, judged}
+use Rattle.request.specs.Judge.{Raw, inLimits, requestOf, judgedBy, judged}
 use Rattle.request.specs.declared.operation.Width.the-variants.{Byte, Word}
 use Rattle.request.specs.declared.operation.Operation.{Operation}
 use Rattle.request.specs.declared.operation.Listed.{Listed}
@@ -64,17 +64,15 @@ up-to most mode h e = rw (le-ltb most mode h) e
 -- ---- the ranges
 
 -- what the match on the name told, and what the arm made of the rest
-pub judged-as : (op mode flags x y : ℕ) {l k : Named} → l ≡ operationOf op mode → l ≡ k → {r : Judged} → r ≡ judgedBy k flags x y → r ≡ judged op mode flags x y
+pub judged-as : (r : Raw) {l k : Named} → l ≡ operationOf (r .op) (r .mode) → l ≡ k → {j : Judged} → j ≡ judgedBy k r → j ≡ judged r
 unfolding judged
-judged-as op mode flags x y e told h = h ∙ ap (λ (n : Named). judgedBy n flags x y) (sym told ∙ e)
+judged-as r e told h = h ∙ ap (λ (n : Named). judgedBy n r) (sym told ∙ e)
 
-module _ (operation : Operation) (flags x y : ℕ) {ok : Bool} (e : ok ≡ inLimits operation flags x y) where
-  pub admitted : ok ≡ true → {f : Flags} → f ≡ flagsOf flags
-      → Admitted (record { operation = operation; flags = f; x = x; y = y })
-      ≡ cond (inLimits operation flags x y) (Admitted (requestOf operation flags x y)) TooLarge
-  admitted t {f} ef = rw (← e, t) (λ i. Admitted (record { operation = operation; flags = ef i; x = x; y = y }))
+module _ (operation : Operation) (r : Raw) {ok : Bool} (e : ok ≡ inLimits operation (r .flags) (r .x) (r .y)) where
+  pub admitted : ok ≡ true → {f : Flags} → f ≡ flagsOf (r .flags) → Admitted (record { operation = operation; flags = f; x = r .x; y = r .y }) ≡ judgedBy (Names operation) r
+  admitted t {f} ef = rw (← e, t) (λ i. Admitted (record { operation = operation; flags = ef i; x = r .x; y = r .y }))
 
-  pub too-large : ok ≡ false → TooLarge ≡ cond (inLimits operation flags x y) (Admitted (requestOf operation flags x y)) TooLarge
+  pub too-large : ok ≡ false → TooLarge ≡ judgedBy (Names operation) r
   too-large t = rw (← e, t)
 
 -- ---- what an admitted request is held to
@@ -82,20 +80,20 @@ module _ (operation : Operation) (flags x y : ℕ) {ok : Bool} (e : ok ≡ inLim
 abbrev pub InRange : Operation → ℕ → ℕ → Type 0
 InRange operation x y = (x ≤ xMost operation) × (y ≤ yMost operation)
 
-pub admitted-in-range : (op mode flags x y : ℕ) {j : Judged} {r : Request} → j ≡ judged op mode flags x y → j ≡ Admitted r → InRange (r .operation) (r .x) (r .y)
+pub admitted-in-range : (given : Raw) {j : Judged} {r : Request} → j ≡ judged given → j ≡ Admitted r → InRange (r .operation) (r .x) (r .y)
 unfolding judged
-admitted-in-range op mode flags x y {r = r} e told = by (operationOf op mode) (sym told ∙ e)
+admitted-in-range given {r = r} e told = by (operationOf (given .op) (given .mode)) (sym told ∙ e)
   where
-    tested : (o : Operation) (a b c : Bool) → leb x (xMost o) ≡ a → leb y (yMost o) ≡ b → Admitted r ≡ cond (a && b && c) (Admitted (requestOf o flags x y)) TooLarge
-        → InRange (r .operation) (r .x) (r .y)
+    tested : (o : Operation) (a b c : Bool) → leb (given .x) (xMost o) ≡ a → leb (given .y) (yMost o) ≡ b
+        → Admitted r ≡ cond (a && b && c) (Admitted (requestOf o given)) TooLarge → InRange (r .operation) (r .x) (r .y)
     tested o true true true ex ey e =
-        let same : r ≡ requestOf o flags x y = cc in
-        subst (λ (q : Request). InRange (q .operation) (q .x) (q .y)) (sym same) (leb-true x (xMost o) ex, leb-true y (yMost o) ey)
+        let same : r ≡ requestOf o given = cc in
+        subst (λ (q : Request). InRange (q .operation) (q .x) (q .y)) (sym same) (leb-true (given .x) (xMost o) ex, leb-true (given .y) (yMost o) ey)
     tested o true true false ex ey e = let z : _≡_ {A = ℕ} 0 1 = cc in absurd (omega arith)
     tested o true false c ex ey e = let z : _≡_ {A = ℕ} 0 1 = cc in absurd (omega arith)
     tested o false b c ex ey e = let z : _≡_ {A = ℕ} 0 1 = cc in absurd (omega arith)
 
-    by : (n : Named) → Admitted r ≡ judgedBy n flags x y → InRange (r .operation) (r .x) (r .y)
-    by (Names o) e = tested o (leb x (xMost o)) (leb y (yMost o)) (isFlags flags) refl refl e
+    by : (n : Named) → Admitted r ≡ judgedBy n given → InRange (r .operation) (r .x) (r .y)
+    by (Names o) e = tested o (leb (given .x) (xMost o)) (leb (given .y) (yMost o)) (isFlags (given .flags)) refl refl e
     by NotListed e = let z : _≡_ {A = ℕ} 0 1 = cc in absurd (omega arith)
     by WrongMode e = let z : _≡_ {A = ℕ} 0 1 = cc in absurd (omega arith)

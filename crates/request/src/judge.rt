@@ -1,6 +1,6 @@
 // The judging of a raw request.
 ghost use mathlib.Core.Path.{_≡_};
-ghost use Rattle.request.specs.Judge.{inLimits, judged};
+ghost use Rattle.request.specs.Judge.{raw, inLimits, judged};
 use crate::limits;
 use crate::operation;
 use crate::operation::Named;
@@ -29,7 +29,7 @@ fn in_range(operation: Operation, flags: u16, x: u32, y: u16) -> bool
 }
 
 pub fn judge(op: u8, mode: u8, flags: u16, x: u32, y: u16) -> Judged
-    ensures { λ r. ⌜ r ≡ judged op mode flags x y ⌝ }
+    ensures { λ r. ⌜ r ≡ judged (raw op mode flags x y) ⌝ }
 {
     match operation::name(op, mode) {
         Named::Operation(operation) => {
