@@ -1,2 +1,5 @@
 pub mod AnswerLaws
 pub mod Width
+pub mod Rows
+pub mod Table
+pub mod Demand1

@@ -1,2 +1,4 @@
 pub mod Charted
 pub mod Asked
+pub mod Table
+pub mod Refused

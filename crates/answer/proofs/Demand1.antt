@@ -1,0 +1,96 @@
+-- Demand 1: status 6 exactly for a divide that is admitted and not accepted; it gives back the flags handed in, the chart's steps and no
+-- result. Assumes nothing.
+use mathlib.Core.Path.{_≡_, refl, sym, ap, subst, _∙_}
+use mathlib.Core.Bool.{Bool, true, false, not, cond, _||_, false≢true}
+use mathlib.Core.Logic.{_↔_}
+use Prim.Native.Nat.{ℕ, _+_, _^_, _<_}
+use native.Mathlib.Omega.{arith}
+use lib.Bits.{bitAnd}
+use lib.Dec.{leb, eqb}
+use borrow.Author.Tests.{leb-false, ltb-false, eqb-true, le-ltb, le-leb, eq-eqb, not-true, not-false}
+use Rattle.flags.specs.Numbers.{isSet}
+use Rattle.flags.specs.Word.{wordOf, flagsOf, isFlags}
+use Rattle.flags.specs.declared.word.Flags.{Flags}
+use Rattle.flags.proofs.WordLaws.{is-masked}
+use Rattle.divide.specs.Divide.{accepts, divide, stepsOf}
+use Rattle.request.specs.Operation.{ops, listed, widthOf, modeOf, operationOf}
+use Rattle.request.specs.Judge.{raw, inLimits, judged}
+use Rattle.request.specs.declared.operation.Operation.the-variants.{Divide}
+use Rattle.answer.specs.Charted.{bits, ofDivided, charted}
+use Rattle.answer.specs.Asked.{Raw, asked}
+use Rattle.answer.specs.Table.{widthBy, tooLarge}
+use Rattle.answer.specs.Refused.{RefusedDivide, refusal}
+use Rattle.answer.specs.declared.answer.Answer.{Answer}
+use Rattle.answer.proofs.Rows.{both}
+use Rattle.answer.proofs.Table.{statuses}
+
+-- ---- a refused divide is answered its refusal
+
+refused-is : (n : ℕ) (s rep : Bool) (d b : ℕ) (f : Flags) → accepts n s d b ≡ false
+    → ofDivided (divide n s rep d b f) ≡ record { status = 6; flags = wordOf f; steps = stepsOf (divide n s rep d b f); r = 0; s = 0 }
+unfolding divide
+refused-is n s rep d b f e = rw e
+
+module _ (mode flags x y : ℕ) (refused : RefusedDivide (raw 0x11 mode flags x y)) where
+  width : bits (widthOf mode) ≡ widthBy mode
+  width = by (isSet 0 mode) refl
+    where
+      by : (k : Bool) → isSet 0 mode ≡ k → bits (widthOf mode) ≡ widthBy mode
+      by true e = rw e
+      by false e = rw e
+
+  kept : wordOf (flagsOf flags) ≡ flags
+  unfolding isFlags
+  kept = eqb-true (wordOf (flagsOf flags)) flags (is-masked flags ∙ eq-eqb (bitAnd flags 0x08D5) flags (refused .flags))
+
+  admitted : inLimits (Divide (modeOf mode)) flags x y ≡ true
+  unfolding isFlags
+  admitted = by (isSet 0 mode) refl (refused .dividend) (refused .divisor)
+    where
+      by : (k : Bool) → isSet 0 mode ≡ k → x < 2 ^ (cond k 16 8 + cond k 16 8) → y < 2 ^ cond k 16 8 → inLimits (Divide (modeOf mode)) flags x y ≡ true
+      by true e hx hy = rw (e, le-leb x 0xFFFF_FFFF (omega arith), le-leb y 0xFFFF (omega arith)) (eq-eqb (wordOf (flagsOf flags)) flags kept)
+      by false e hx hy = rw (e, le-leb x 0xFFFF (omega arith), le-leb y 0xFF (omega arith)) (eq-eqb (wordOf (flagsOf flags)) flags kept)
+
+  answered : asked (raw 0x11 mode flags x y) ≡ refusal (raw 0x11 mode flags x y)
+  unfolding asked judged operationOf listed ops charted
+  answered =
+      rw (le-ltb 0x07 mode (refused .mode), admitted, width, refused-is (widthBy mode) (isSet 1 mode) (isSet 2 mode) x y (flagsOf flags) (refused .notAccepted))
+      (λ i. record { status = 6; flags = kept i; steps = stepsOf (divide (widthBy mode) (isSet 1 mode) (isSet 2 mode) x y (flagsOf flags)); r = 0; s = 0 })
+
+-- ---- and status 6 is given to nothing else
+
+none-of : (a b c : Bool) → a || b || c ≡ false → (a ≡ false) × (b ≡ false) × (c ≡ false)
+none-of true b c e = absurd (false≢true (sym e))
+none-of false true c e = absurd (false≢true (sym e))
+none-of false false c e = (refl, refl, e)
+
+module _ (r : Raw) where
+  is-divide : r .op ≡ 0x11 → r ≡ raw 0x11 (r .mode) (r .flags) (r .x) (r .y)
+  is-divide e i = record { op = e i; mode = r .mode; flags = r .flags; x = r .x; y = r .y }
+
+  is-refused : asked r .status ≡ 6 → RefusedDivide r
+  is-refused e =
+      let n = widthBy (r .mode) in
+      let signed = isSet 1 (r .mode) in
+      let given = statuses r 6 .0 e in
+      let divide = both (eqb (r .op) 0x11) (not (accepts n signed (r .x) (r .y))) (given .1 .1 .1) in
+      let op = eqb-true (r .op) 0x11 (divide .0) in
+      let modes = none-of _ _ _ (given .1 .0) in
+      let limits = none-of (leb (2 ^ (n + n)) (r .x)) (leb (2 ^ n) (r .y)) (not (eqb (bitAnd (r .flags) 0x08D5) (r .flags))) (subst (λ (q : Raw). tooLarge q ≡ false) (is-divide op) (given .1 .1 .0)) in
+      record {
+        op = op;
+        mode = ltb-false 0x07 (r .mode) (modes .0);
+        dividend = leb-false (2 ^ (n + n)) (r .x) (limits .0);
+        divisor = leb-false (2 ^ n) (r .y) (limits .1);
+        flags = eqb-true (bitAnd (r .flags) 0x08D5) (r .flags) (not-false (eqb (bitAnd (r .flags) 0x08D5) (r .flags)) (limits .2));
+        notAccepted = not-true (accepts n signed (r .x) (r .y)) (divide .1);
+      }
+
+  is-answered : RefusedDivide r → asked r ≡ refusal r
+  is-answered d =
+      let e = is-divide (d .op) in
+      subst (λ (q : Raw). asked q ≡ refusal q) (sym e) (answered (r .mode) (r .flags) (r .x) (r .y) (subst RefusedDivide e d))
+
+-- status 6 exactly for a refused divide, and then the answer is its refusal
+pub demand-1 : (r : Raw) → (asked r .status ≡ 6 ↔ RefusedDivide r) × (RefusedDivide r → asked r ≡ refusal r)
+demand-1 r = ((is-refused r, λ d. ap (λ (a : Answer). a .status) (is-answered r d)), is-answered r)

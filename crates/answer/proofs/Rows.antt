@@ -1,0 +1,61 @@
+-- The first row that applies, and the status that is given. Assumes nothing.
+use mathlib.Core.Path.{_≡_, refl, sym, _∙_}
+use mathlib.Core.Bool.{Bool, true, false, not, cond, _&&_, false≢true}
+use mathlib.Core.List.{List, [], _∷_}
+use mathlib.Core.Logic.{_↔_}
+use Prim.Native.Nat.{ℕ, max, _≤_}
+use native.Mathlib.Omega.{arith}
+use lib.Dec.{eqb}
+use borrow.Author.Tests.{eqb-true, eqb-false, not-true}
+use Rattle.answer.specs.Table.{Given}
+
+pub both : (a b : Bool) → a && b ≡ true → (a ≡ true) × (b ≡ true)
+both true b h = (refl, h)
+both false b h = absurd (false≢true h)
+
+-- the status of the first row that applies
+abbrev pub firstOf : List (ℕ × Bool) → ℕ
+firstOf [] = 0
+firstOf (row ∷ rows) = cond (row .1) (row .0) (firstOf rows)
+
+-- no row has status k
+abbrev pub lacks : ℕ → List (ℕ × Bool) → Bool
+lacks k [] = true
+lacks k (row ∷ rows) = not (eqb k (row .0)) && lacks k rows
+
+-- each status has one row, and 0 has none
+abbrev pub distinct : List (ℕ × Bool) → Bool
+distinct [] = true
+distinct (row ∷ rows) = not (eqb 0 (row .0)) && lacks (row .0) rows && distinct rows
+
+not-first : (k : ℕ) (rows : List (ℕ × Bool)) → (k ≡ 0 → ⊥) → lacks k rows ≡ true → firstOf rows ≡ k → ⊥
+not-first k [] n l e = n (sym e)
+not-first k ((j, true) ∷ rows) n l e = eqb-false k j (not-true (eqb k j) (both (not (eqb k j)) (lacks k rows) l .0)) (sym e)
+not-first k ((j, false) ∷ rows) n l e = not-first k rows n (both (not (eqb k j)) (lacks k rows) l .1) e
+
+-- that status is the one that is given
+pub first-given : (rows : List (ℕ × Bool)) → distinct rows ≡ true → (k : ℕ) → firstOf rows ≡ k ↔ Given k rows
+first-given [] d k = (sym, sym)
+first-given ((j, applies) ∷ rows) d k =
+    let c = both (not (eqb 0 j) && lacks j rows) (distinct rows) d in
+    let b = both (not (eqb 0 j)) (lacks j rows) (c .0) in
+    by (eqb k j) applies refl (first-given rows (c .1) k) (not-true (eqb 0 j) (b .0)) (b .1)
+  where
+    by : (same applies : Bool) → eqb k j ≡ same → firstOf rows ≡ k ↔ Given k rows → eqb 0 j ≡ false → lacks j rows ≡ true
+        → cond applies j (firstOf rows) ≡ k ↔ cond same (applies ≡ true) ((applies ≡ false) × Given k rows)
+    by true true e rest n l = (λ z. refl, λ z. sym (eqb-true k j e))
+    by true false e rest n l =
+        let mine = eqb-true k j e in
+        (λ z. absurd (not-first j rows (λ none. eqb-false 0 j n (sym none)) l (z ∙ mine)), λ z. absurd (false≢true z))
+    by false true e rest n l = (λ z. absurd (eqb-false k j e (sym z)), λ z. absurd (false≢true (sym (z .0))))
+    by false false e rest n l = (λ z. (refl, rest .0 z), λ z. rest .1 (z .1))
+
+-- there is no other
+abbrev pub most : List (ℕ × Bool) → ℕ
+most [] = 0
+most (row ∷ rows) = max (row .0) (most rows)
+
+pub first-most : (rows : List (ℕ × Bool)) → firstOf rows ≤ most rows
+first-most [] = omega arith
+first-most ((j, true) ∷ rows) = omega arith
+first-most ((j, false) ∷ rows) = omega (arith, first-most rows)
