@@ -187,7 +187,8 @@ module _ (r : Raw) where
       by true = charted-status o d
       by false = refl
 
-  by-table : asked r .status ≡ firstOf (rows r)
+  -- the first row that applies
+  pub by-table : asked r .status ≡ firstOf (rows r)
   unfolding asked judged
   by-table = by (operationOf (r .op) (r .mode)) (agreed (r .op) (r .mode))
     where

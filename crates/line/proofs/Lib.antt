@@ -1,3 +1,4 @@
 pub mod Turns
 pub mod Places
 pub mod RunLaws
+pub mod Table

@@ -22,7 +22,7 @@ first-feed (b ∷ t) zero h before e = rw (eq-eqb b 0x0A e)
 first-feed (b ∷ t) (suc n) h before e =
     rw (ne-eqb b 0x0A (before 0 (omega arith))) (ap suc (first-feed t n (omega arith) (λ i p. before (suc i) (omega arith)) e))
 
-both : (x y : Bool) → x && y ≡ true → (x ≡ true) × (y ≡ true)
+pub both : (x y : Bool) → x && y ≡ true → (x ≡ true) × (y ≡ true)
 both true y e = (refl, e)
 both false y e = absurd (false≢true e)
 

@@ -1,4 +1,5 @@
 pub mod FoundLaws
 pub mod LineLaws
 pub mod NextLine
+pub mod Plain
 pub mod ReadBack

@@ -1,0 +1,105 @@
+-- The table of statuses for lines: each status exactly when its row applies and none before it does; no other status; zeros after 1 to 5;
+-- and demand 1. Assumes nothing.
+use mathlib.Core.Path.{_≡_, refl, sym, ap, subst, _∙_}
+use mathlib.Core.Bool.{Bool, true, false, not, cond}
+use mathlib.Core.List.{List}
+use mathlib.Core.Logic.{_↔_}
+use Prim.Native.Nat.{ℕ, _≤_}
+use native.Mathlib.Omega.{arith}
+use lib.Dec.{ltb, eqb}
+use lib.ListN.{length}
+use borrow.Author.Tests.{eqb-true, eqb-false, eq-eqb, ne-eqb, not-true, not-false}
+use Rattle.text.specs.Plain.{allDigits, fieldsIn}
+use Rattle.text.specs.declared.fields.Read.the-variants.{Fields as OfFields, Length, Digit}
+use Rattle.text.proofs.Plain.{read-plainly}
+use Rattle.answer.specs.Asked.{zeros, asked}
+use Rattle.answer.specs.Table.{Given, rows}
+use Rattle.answer.specs.Refused.{RefusedDivide, refusal}
+use Rattle.answer.specs.declared.answer.Answer.{Answer}
+use Rattle.answer.proofs.Rows.{firstOf, first-given, first-most}
+use Rattle.answer.proofs.Table.{by-table, rest-zeros}
+use Rattle.answer.proofs.Demand1.{demand-1}
+use Rattle.line.specs.One.{answerBy, answerOf, statusIn}
+use Rattle.line.specs.Table.{rawIn, lineRows, table}
+
+module _ (line : List ℕ) where
+  -- what a line is answered by its length, then by its digits
+  abbrev plain : Bool → Bool → Answer
+  plain long digits = cond long (cond digits (asked (rawIn line)) (zeros 2)) (zeros 1)
+
+  plainly : answerOf line ≡ plain (eqb (length line) 20) (allDigits line)
+  unfolding answerOf
+  plainly = rw (read-plainly line) (by (eqb (length line) 20) (allDigits line))
+    where
+      by : (a b : Bool) → answerBy (cond a (cond b (OfFields (fieldsIn line)) Digit) Length) ≡ plain a b
+      by true true = refl
+      by true false = refl
+      by false b = refl
+
+  first-row : answerOf line .status ≡ firstOf (lineRows line)
+  first-row = ap (λ (a : Answer). a .status) plainly ∙ by (eqb (length line) 20) (allDigits line)
+    where
+      by : (a b : Bool) → plain a b .status ≡ cond (not a) 1 (cond (not b) 2 (firstOf (rows (rawIn line))))
+      by true true = by-table (rawIn line)
+      by true false = refl
+      by false b = refl
+
+  -- status k exactly when its row applies and none before it does
+  pub line-statuses : (k : ℕ) → answerOf line .status ≡ k ↔ Given k (lineRows line)
+  line-statuses k = let first = first-given (lineRows line) refl k in (λ e. first .0 (sym first-row ∙ e), λ g. first-row ∙ first .1 g)
+
+  -- the same with the room
+  pub statuses : (room k : ℕ) → statusIn room line ≡ k ↔ Given k (table room line)
+  statuses room k =
+      let first = first-given (table room line) refl k in
+      let row = ap (cond (ltb room 19) 7) first-row in
+      (λ e. first .0 (sym row ∙ e), λ g. row ∙ first .1 g)
+
+  -- no other status exists
+  pub line-up-to-6 : answerOf line .status ≤ 6
+  line-up-to-6 = omega (arith, first-row, first-most (lineRows line))
+
+  pub up-to-7 : (room : ℕ) → statusIn room line ≤ 7
+  up-to-7 room = by (ltb room 19)
+    where
+      by : (k : Bool) → cond k 7 (answerOf line .status) ≤ 7
+      by true = omega arith
+      by false = omega (arith, line-up-to-6)
+
+  -- after 1 to 5 the rest is zeros
+  pub line-zeros : 1 ≤ answerOf line .status → answerOf line .status ≤ 5 → answerOf line ≡ zeros (answerOf line .status)
+  line-zeros = subst (λ (a : Answer). 1 ≤ a .status → a .status ≤ 5 → a ≡ zeros (a .status)) (sym plainly) (by (eqb (length line) 20) (allDigits line))
+    where
+      by : (a b : Bool) → 1 ≤ plain a b .status → plain a b .status ≤ 5 → plain a b ≡ zeros (plain a b .status)
+      by true true = rest-zeros (rawIn line)
+      by true false = λ low high. refl
+      by false b = λ low high. refl
+
+  -- a line of 20 digits is answered as the raw request in it
+  pub as-asked : length line ≡ 20 → allDigits line ≡ true → answerOf line ≡ asked (rawIn line)
+  as-asked long digits = rw (eq-eqb (length line) 20 long, digits) at plainly
+
+  -- demand 1: status 6 exactly for a line with a refused divide, and then the answer is its refusal
+  pub line-demand-1 : (answerOf line .status ≡ 6 ↔ (length line ≡ 20) × (allDigits line ≡ true) × RefusedDivide (rawIn line))
+      × (answerOf line .status ≡ 6 → answerOf line ≡ refusal (rawIn line))
+  line-demand-1 = (
+    (λ e. let h = read e in (h .0, h .1, refused e), λ h. ap (λ (a : Answer). a .status) (as-asked (h .0) (h .1)) ∙ demand-1 (rawIn line) .0 .1 (h .2)),
+    λ e. let h = read e in as-asked (h .0) (h .1) ∙ demand-1 (rawIn line) .1 (refused e),
+  )
+    where
+      read : answerOf line .status ≡ 6 → (length line ≡ 20) × (allDigits line ≡ true)
+      read e = let g = line-statuses 6 .0 e in (eqb-true (length line) 20 (not-false (eqb (length line) 20) (g .0)), not-false (allDigits line) (g .1 .0))
+
+      refused : answerOf line .status ≡ 6 → RefusedDivide (rawIn line)
+      refused e = let h = read e in demand-1 (rawIn line) .0 .0 (ap (λ (a : Answer). a .status) (sym (as-asked (h .0) (h .1))) ∙ e)
+
+  -- rows 1 and 2 in other words
+  pub status-1 : answerOf line .status ≡ 1 ↔ (length line ≡ 20 → ⊥)
+  status-1 =
+      (λ e. eqb-false (length line) 20 (not-true (eqb (length line) 20) (line-statuses 1 .0 e)), λ n. line-statuses 1 .1 (rw (ne-eqb (length line) 20 n)))
+
+  pub status-2 : answerOf line .status ≡ 2 ↔ (length line ≡ 20) × (allDigits line ≡ false)
+  status-2 = (
+    λ e. let g = line-statuses 2 .0 e in (eqb-true (length line) 20 (not-false (eqb (length line) 20) (g .0)), not-true (allDigits line) (g .1)),
+    λ h. line-statuses 2 .1 (rw (eq-eqb (length line) 20 (h .0)), rw (h .1)),
+  )
