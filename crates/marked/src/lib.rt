@@ -1,2 +1,2 @@
-// No code: the marked examples of the scope, as one list, and the one theorem over it. They speak of
-// the definitions from `flags` to `bcd`, so they stand above those.
+// No code: the marked examples of the scope, as one list, and the one theorem over it. Each is a raw
+// request and what is told of its answer, so they stand above `answer`.
