@@ -38,10 +38,9 @@ widthBy mode = cond (isSet 0 mode) 16 8
 abbrev pub xBits : ℕ → ℕ → ℕ
 xBits op mode = cond (isAdjust op) 16 (cond (eqb op 0x11) (widthBy mode + widthBy mode) (widthBy mode))
 
--- and Y: none for NEG, AAA, AAS, DAA and DAS, 8 for a count and for AAD, else the width
+-- and Y: a count and AAD's byte have 8, NEG and the other adjusts have none, else it is the width
 abbrev pub yBits : ℕ → ℕ → ℕ
-yBits op mode =
-    cond (eqb op 0x04 || (isAdjust op && not (eqb op 0x1A))) 0 (cond (between 0x05 0x0C op || eqb op 0x1A) 8 (widthBy mode))
+yBits op mode = cond (between 0x05 0x0C op || eqb op 0x1A) 8 (cond (eqb op 0x04 || isAdjust op) 0 (widthBy mode))
 
 -- X or Y too large; flag outside 08D5
 abbrev pub tooLarge : Raw → Bool
