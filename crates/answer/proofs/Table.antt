@@ -2,16 +2,16 @@
 use mathlib.Core.Path.{_≡_, refl, sym, _∙_}
 use mathlib.Core.Bool.{Bool, true, false, not, cond, _&&_, _||_, Bool·beq, false≢true}
 use mathlib.Core.Logic.{_↔_}
-use Prim.Native.Nat.{ℕ, zero, suc, _+_, _^_, _≤_, _<_}
+use Prim.Native.Nat.{ℕ, _+_, _^_, _≤_}
 use native.Mathlib.Omega.{arith}
 use lib.Dec.{leb, eqb}
-use borrow.Author.Tests.{leb-true, leb-false, eqb-true, lt-ltb, le-leb, lt-leb, not-true}
+use borrow.Author.Tests.{leb-true, leb-false, eqb-true, le-leb, lt-leb, not-true}
 use Rattle.flags.specs.Numbers.{isSet}
 use Rattle.flags.specs.Word.{flagsOf}
 use Rattle.flags.specs.declared.word.Flags.{Flags}
 use Rattle.flags.proofs.WordLaws.{is-masked}
 use Rattle.divide.specs.Divide.{accepts, divide}
-use Rattle.request.specs.Operation.{ops, listed, checked, operationOf}
+use Rattle.request.specs.Operation.{operationOf}
 use Rattle.request.specs.Limits.{xMost, yMost}
 use Rattle.request.specs.Judge.{inLimits, requestOf, judgedBy, judged}
 use Rattle.request.specs.declared.operation.Width.{Width}
@@ -20,83 +20,17 @@ use Rattle.request.specs.declared.operation.Alu.{Alu}
 use Rattle.request.specs.declared.operation.Alu.the-variants as Alus
 use Rattle.request.specs.declared.operation.Operation.{Operation}
 use Rattle.request.specs.declared.operation.Operation.the-variants.{Alu as OfAlu, Multiply as OfMultiply, Divide as OfDivide, Decimal as OfDecimal}
-use Rattle.request.specs.declared.operation.Listed.{Listed}
-use Rattle.request.specs.declared.operation.Listed.the-variants.{Alu as AluOp, Multiply, Divide, Decimal as DecimalOp, Unlisted}
 use Rattle.request.specs.declared.operation.Named.{Named}
 use Rattle.request.specs.declared.operation.Named.the-variants.{Operation as Names, Unlisted as NotListed, WrongMode as BadMode}
 use Rattle.request.specs.declared.judge.Judged.{Judged}
-use Rattle.request.specs.declared.judge.Judged.the-variants.{Admitted, Unlisted as Unlisted', WrongMode as WrongMode', TooLarge}
-use Rattle.request.proofs.RequestLaws.{missed}
+use Rattle.request.specs.declared.judge.Judged.the-variants.{Admitted, Unlisted, WrongMode, TooLarge}
 use Rattle.multiply.specs.Routines.{Multiplied}
 use Rattle.multiply.specs.Multiply.{multiply}
 use Rattle.answer.specs.Charted.{bits, aluOf, multipliedBy, ofDivided, chartedBy, charted}
 use Rattle.answer.specs.Asked.{Raw, zeros, ofJudged, asked}
 use Rattle.answer.specs.Table.{Given, unlisted, wrongMode, widthBy, xBits, yBits, tooLarge, refusesDivide, rows}
+use Rattle.answer.proofs.Agreement.{divides, agrees, agreed}
 use Rattle.answer.proofs.Rows.{both, firstOf, first-given, first-most}
-
--- ---- what the rows say of an op and a mode is said of what they name
-
--- a divide has op 11, and the table's width and sign rule; nothing else has op 11
-abbrev divides : ℕ → ℕ → Operation → Bool
-divides op mode (OfDivide m) = eqb op 0x11 && eqb (bits (m .width)) (widthBy mode) && Bool·beq (m .signed) (isSet 1 mode)
-divides op mode (OfAlu alu w) = not (eqb op 0x11)
-divides op mode (OfMultiply m) = not (eqb op 0x11)
-divides op mode (OfDecimal decimal) = not (eqb op 0x11)
-
-abbrev agrees : ℕ → ℕ → Named → Bool
-agrees op mode NotListed = unlisted op
-agrees op mode BadMode = not (unlisted op) && wrongMode op mode
-agrees op mode (Names o) =
-    not (wrongMode op mode) && not (unlisted op) && eqb (xMost o + 1) (2 ^ xBits op mode) && eqb (yMost o + 1) (2 ^ yBits op mode) && divides op mode o
-
--- a test of every number below n
-abbrev below : (ℕ → Bool) → ℕ → Bool
-below test zero = true
-below test (suc n) = test 0 && below (λ k. test (suc k)) n
-
-at : (test : ℕ → Bool) (n : ℕ) → below test n ≡ true → (k : ℕ) → k < n → test k ≡ true
-at test zero h k l = absurd (omega arith)
-at test (suc n) h zero l = both (test 0) (below (λ k. test (suc k)) n) h .0
-at test (suc n) h (suc k) l = at (λ j. test (suc j)) n (both (test 0) (below (λ k. test (suc k)) n) h .1) k (omega arith)
-
--- ops to 1C and modes to 08, by computation
-computed : below (λ op. below (λ mode. agrees op mode (operationOf op mode)) 9) 0x1D ≡ true
-unfolding operationOf listed ops
-computed = refl
-
-listed-agree : (op mode : ℕ) → op < 0x1D → mode < 9 → agrees op mode (operationOf op mode) ≡ true
-listed-agree op mode o m =
-    at (λ m. agrees op m (operationOf op m)) 9 (at (λ o. below (λ m. agrees o m (operationOf o m)) 9) 0x1D computed op o) mode m
-
--- a mode above 08 is as wrong as 08
-over : (l : Listed) (mode : ℕ) → 0x07 < mode → checked l mode ≡ checked l 0x08
-over (AluOp alu) mode h = rw (lt-ltb 0x01 mode (omega arith))
-over Multiply mode h = rw (lt-ltb 0x07 mode h)
-over Divide mode h = rw (lt-ltb 0x07 mode h)
-over (DecimalOp decimal) mode h = rw (lt-ltb 0x00 mode (omega arith))
-over Unlisted mode h = refl
-
-over-agrees : (op mode : ℕ) → 0x07 < mode → (n : Named) → agrees op 0x08 n ≡ true → agrees op mode n ≡ true
-over-agrees op mode h NotListed e = e
-over-agrees op mode h BadMode e = rw (lt-ltb 0x07 mode h) e
-over-agrees op mode h (Names o) e = absurd (false≢true e)
-
--- an op above 1C is not listed
-above-agrees : (op mode : ℕ) → 0x1C < op → agrees op mode (operationOf op mode) ≡ true
-unfolding operationOf listed ops
-above-agrees op mode h =
-    rw (← missed (Unit {0}) op ops (omega arith), lt-leb op 0x0C (omega arith), le-leb 0x10 op (omega arith), lt-leb op 0x11 (omega arith), le-leb 0x18 op (omega arith), lt-leb op 0x1C h)
-
-agreed : (op mode : ℕ) → agrees op mode (operationOf op mode) ≡ true
-unfolding operationOf
-agreed op mode = by (leb op 0x1C) (leb mode 0x08) refl refl
-  where
-    by : (a b : Bool) → leb op 0x1C ≡ a → leb mode 0x08 ≡ b → agrees op mode (operationOf op mode) ≡ true
-    by false b ea eb = above-agrees op mode (leb-false op 0x1C ea)
-    by true true ea eb = listed-agree op mode (omega (arith, leb-true op 0x1C ea)) (omega (arith, leb-true mode 0x08 eb))
-    by true false ea eb =
-        let h = leb-false mode 0x08 eb in
-        rw (over (listed op) mode (omega arith)) (over-agrees op mode (omega arith) (checked (listed op) 0x08) (listed-agree op 0x08 (omega (arith, leb-true op 0x1C ea)) (omega arith)))
 
 -- ---- the limits
 
@@ -142,17 +76,17 @@ divide-status n s rep d b f = by (accepts n s d b) refl
     by true e = rw e
     by false e = rw e
 
--- the charts give 0 or 6
-charted-either : (o : Operation) (x y : ℕ) (f : Flags) → 1 ≤ chartedBy o x y f .status → chartedBy o x y f .status ≤ 5 → ⊥
-charted-either (OfAlu alu w) x y f low high = omega (arith, alu-status (bits w) alu x y f)
-charted-either (OfMultiply m) x y f low high = omega (arith, product-status (m .width) (multiply (bits (m .width)) (m .signed) (m .rep) x y f))
-charted-either (OfDivide m) x y f low high =
+-- the charts give none of 1 to 5
+never-1-to-5 : (o : Operation) (x y : ℕ) (f : Flags) → 1 ≤ chartedBy o x y f .status → chartedBy o x y f .status ≤ 5 → ⊥
+never-1-to-5 (OfAlu alu w) x y f low high = omega (arith, alu-status (bits w) alu x y f)
+never-1-to-5 (OfMultiply m) x y f low high = omega (arith, product-status (m .width) (multiply (bits (m .width)) (m .signed) (m .rep) x y f))
+never-1-to-5 (OfDivide m) x y f low high =
     by (not (accepts (bits (m .width)) (m .signed) x y)) (divide-status (bits (m .width)) (m .signed) (m .rep) x y f) low high
   where
     by : (k : Bool) {status : ℕ} → status ≡ cond k 6 0 → 1 ≤ status → status ≤ 5 → ⊥
     by true e low high = omega arith
     by false e low high = omega arith
-charted-either (OfDecimal decimal) x y f low high = omega arith
+never-1-to-5 (OfDecimal decimal) x y f low high = omega arith
 
 same : (a b : Bool) → Bool·beq a b ≡ true → a ≡ b
 same true true e = refl
@@ -220,7 +154,7 @@ module _ (r : Raw) where
   rest-zeros = by (judged r)
     where
       by : (j : Judged) → 1 ≤ ofJudged j .status → ofJudged j .status ≤ 5 → ofJudged j ≡ zeros (ofJudged j .status)
-      by (Admitted q) low high = absurd (charted-either (q .operation) (q .x) (q .y) (q .flags) low high)
-      by Unlisted' low high = refl
-      by WrongMode' low high = refl
+      by (Admitted q) low high = absurd (never-1-to-5 (q .operation) (q .x) (q .y) (q .flags) low high)
+      by Unlisted low high = refl
+      by WrongMode low high = refl
       by TooLarge low high = refl
