@@ -2,3 +2,5 @@ pub mod Turns
 pub mod Places
 pub mod RunLaws
 pub mod Table
+pub mod LongLines
+pub mod WholeLaws

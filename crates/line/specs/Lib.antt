@@ -1,3 +1,4 @@
 pub mod One
 pub mod Table
 pub mod Run
+pub mod Whole

@@ -1,0 +1,118 @@
+-- What a program that reads block by block rests on: a whole run, taken in parts. `whole-goes-on`: so far and no further, and then the rest;
+-- `nothing-left`: where a run uses nothing no line is left; `whole-at-end`: with the mark all is used; `no-feed-left`: without it what is left holds no
+-- line feed; `whole-by-blocks`: the answers to two blocks are those to the first, and then those to what it leaves with the second behind it.
+-- Assumes nothing.
+use mathlib.Core.Path.{_≡_, refl, sym, ap, _∙_}
+use mathlib.Core.Bool.{Bool, true, false, cond}
+use mathlib.Core.List.{List, [], _∷_, _++_, append-nil}
+use Prim.Native.Nat.{ℕ, zero, suc, _+_, _-_, _*_, _<_, _≤_}
+use native.Mathlib.Nat.{add-zero, le-refl}
+use native.Mathlib.Omega.{arith}
+use lib.Dec.{ltb, eqb}
+use lib.ListN.{length, drop, length-append, length-drop}
+use lib.Seq.{drop-nil}
+use borrow.Author.Tests.{ltb-false}
+use Rattle.text.specs.Lines.{lineLength}
+use Rattle.text.proofs.LineLaws.{end-within}
+use Rattle.line.specs.Run.{Done, runOf, linesIn}
+use Rattle.line.specs.Whole.{whole}
+use Rattle.line.proofs.Turns.{takes, stops, goes}
+use Rattle.line.proofs.RunLaws.{used-within, continued, unchanged, by-blocks, all-answered}
+use Rattle.line.proofs.LongLines.{NoFeed, long-starts-alike}
+
+-- ---- more room than a whole run has changes nothing
+
+one-by : (x e : Bool) → cond x 1 (cond e 1 0) ≤ 1
+one-by true e = omega arith
+one-by false true = omega arith
+one-by false false = omega arith
+
+more-by : (x : Bool) (l n : ℕ) → l ≤ n → cond x (suc l) l ≤ suc n
+more-by true l n h = omega arith
+more-by false l n h = omega arith
+
+lines-within : (e : Bool) (t : List ℕ) → linesIn e t ≤ length t
+lines-within e [] = le-refl 0
+lines-within e (b ∷ []) = one-by (eqb b 0x0A) e
+lines-within e (b ∷ c ∷ t) = more-by (eqb b 0x0A) _ _ (lines-within e (c ∷ t))
+
+none-left : (e : Bool) (t : List ℕ) → takes e (drop (whole e t .used) t) ≡ 0
+none-left e t = all-answered (length t) e t [] (lines-within e t)
+
+enough-by : (k : ℕ) (e : Bool) (t : List ℕ) → runOf (length t + k) e t [] ≡ whole e t
+enough-by k e t =
+    let d = whole e t in
+    continued (length t) k e t [] ∙ rw (stops k e (drop (d .used) t) (drop (d .lines * 19) []) (none-left e t)) (simp (drop-nil, append-nil, add-zero))
+
+enough : (m : ℕ) (e : Bool) (t : List ℕ) → length t ≤ m → runOf m e t [] ≡ whole e t
+enough m e t h = let p : m ≡ length t + (m - length t) = omega arith in rw p (enough-by (m - length t) e t)
+
+-- ---- a whole run in parts
+
+-- a run with any room, and then a whole one over the rest
+pub whole-goes-on : (m : ℕ) (e : Bool) (t o : List ℕ) → (let used = runOf m e t o .used in whole e t .used ≡ used + whole e (drop used t) .used)
+whole-goes-on m e t o =
+    let d = runOf m e t [] in
+    let k = length t in
+    let rest = drop (d .used) t in
+    let on : runOf (m + k) e t [] .used ≡ d .used + runOf k e rest (drop (d .lines * 19) []) .used = ap (λ (x : Done). x .used) (continued m k e t []) in
+    let more : length t ≤ m + k = omega arith in
+    let less : length rest ≤ k = omega (arith, length-drop (d .used) t) in
+    rw (ap (λ (x : Done). x .used) (unchanged m e t o)) (rw (enough (m + k) e t more, drop-nil, enough k e rest less) at on)
+
+-- nothing used: no line left
+pub nothing-left : (m : ℕ) (e : Bool) (t o : List ℕ) → 0 < m → runOf m e t o .used ≡ 0 → whole e t .used ≡ 0
+nothing-left zero e t o some none = let z : ⊥ = omega arith in absurd z
+nothing-left (suc m) e t o some none = by (takes e t) refl
+  where
+    by : (n : ℕ) → takes e t ≡ n → whole e t .used ≡ 0
+    by zero q = ap (λ (x : Done). x .used) (stops (length t) e t [] q)
+    by (suc n) q =
+        let line : 0 < takes e t = omega arith in
+        let z : ⊥ = omega (arith, ap (λ (x : Done). x .used) (goes m e t o line)) in
+        absurd z
+
+-- with the mark all is used
+pub whole-at-end : (t : List ℕ) → whole true t .used ≡ length t
+whole-at-end t = omega (arith, used-within (length t) true t [], by (drop (whole true t .used) t) (none-left true t), length-drop (whole true t .used) t)
+  where
+    by-feed : (x : Bool) (l n : ℕ) → cond x (suc l) n ≡ 0 → n ≡ 0
+    by-feed true l n h = let z : ⊥ = omega arith in absurd z
+    by-feed false l n h = h
+
+    by : (s : List ℕ) → takes true s ≡ 0 → length s ≡ 0
+    by s h = by-feed (ltb (lineLength s) (length s)) (lineLength s) (length s) h
+
+-- without it no line feed is left
+pub no-feed-left : (t : List ℕ) → NoFeed (drop (whole false t .used) t)
+no-feed-left t = by (drop (whole false t .used) t) (none-left false t)
+  where
+    by-feed : (x : Bool) (l n : ℕ) → ltb l n ≡ x → cond x (suc l) 0 ≡ 0 → n ≤ l
+    by-feed true l n q h = let z : ⊥ = omega arith in absurd z
+    by-feed false l n q h = ltb-false l n q
+
+    by : (s : List ℕ) → takes false s ≡ 0 → NoFeed s
+    by s h = omega (arith, by-feed (ltb (lineLength s) (length s)) (lineLength s) (length s) refl h, end-within s 0 (omega arith))
+
+-- block by block
+pub whole-by-blocks : (e : Bool) (t v : List ℕ) → whole e (t ++ v) .bytes ≡ whole false t .bytes ++ whole e (drop (whole false t .used) t ++ v) .bytes
+whole-by-blocks e t v =
+    let d = whole false t in
+    let k = length (t ++ v) in
+    let rest = drop (d .used) t in
+    let more : length (t ++ v) ≤ d .lines + k = omega arith in
+    let less : length (rest ++ v) ≤ k = omega (arith, length-append t v, length-append rest v, length-drop (d .used) t) in
+    let two : runOf (d .lines + k) e (t ++ v) [] .bytes ≡ d .bytes ++ runOf k e (rest ++ v) (drop (d .lines * 19) []) .bytes =
+    ap (λ (x : Done). x .bytes) (by-blocks (length t) k e t v []) in
+    rw (enough (d .lines + k) e (t ++ v) more, drop-nil, enough k e (rest ++ v) less) at two
+
+-- ---- long lines
+
+-- two starts of long lines are the same to a whole run, whatever v is read behind them
+pub whole-long-starts : (s t : List ℕ) → NoFeed s → NoFeed t → 20 < length s → 20 < length t → (e : Bool) (v : List ℕ)
+    → whole e (s ++ v) .bytes ≡ whole e (t ++ v) .bytes
+whole-long-starts s t none-s none-t long-s long-t e v =
+    let k = length (s ++ v) + length (t ++ v) in
+    let first : length (s ++ v) ≤ k = omega arith in
+    let second : length (t ++ v) ≤ k = omega arith in
+    rw (enough k e (s ++ v) first, enough k e (t ++ v) second) at (long-starts-alike s t none-s none-t long-s long-t k e v [])
