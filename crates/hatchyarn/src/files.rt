@@ -8,6 +8,7 @@ ghost use lib.ListN.{length};
 
 fn answer_file(path: &[u8], buffer: &mut [u8], room: &mut [u8]) -> bool
     requires { ⌜ 32 ≤ length (now buffer) ⌝ }
+    requires { ⌜ 19 ≤ length (now room) ⌝ }
 {
     if path.len() == 1 {
         if path[0] == b'-' {
@@ -29,6 +30,7 @@ fn answer_file(path: &[u8], buffer: &mut [u8], room: &mut [u8]) -> bool
 // of a path is shown cut.
 fn answer_argument(i: usize, end: usize, buffer: &mut [u8], room: &mut [u8]) -> bool
     requires { ⌜ 32 ≤ length (now buffer) ⌝ }
+    requires { ⌜ 19 ≤ length (now room) ⌝ }
 {
     if i == end {
         return true;
