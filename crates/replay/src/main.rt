@@ -3,17 +3,18 @@
 use libc::STDIN_FILENO;
 use libc::STDOUT_FILENO;
 ghost use mathlib.Core.Path.{_≡_};
-ghost use mathlib.Core.Bool.{true};
+ghost use mathlib.Core.Bool.{cond};
 ghost use Prim.Native.Nat.{_≤_};
 ghost use lib.ListN.{length, take, drop};
-ghost use Rattle.line.specs.One.{textOf};
+ghost use Rattle.replay.specs.Record.{right};
+ghost use Rattle.replay.specs.Counted.{countOn};
 
 // Where the request begins.
 const REQUEST: usize = 19;
 
-// Whether the request is answered as it was recorded.
+// Whether the request is answered as it was recorded. A record too short to hold one is not.
 fn same_answer(recorded: &[u8]) -> bool
-    ensures { λ r. ⌜ (r ≡ true → take 18 (now (recorded .entry)) ≡ take 18 (textOf (drop 19 (now (recorded .entry))))) ⌝ }
+    ensures { λ r. ⌜ r ≡ right (now (recorded .entry)) ⌝ }
 {
     if recorded.len() < REQUEST {
         return false;
@@ -25,7 +26,7 @@ fn same_answer(recorded: &[u8]) -> bool
 
 // 1 where a record differs. It is shown, so that it can be tried by hand.
 fn differs(recorded: &[u8]) -> u64
-    ensures { λ r. ⌜ (r ≡ 0 → take 18 (now (recorded .entry)) ≡ take 18 (textOf (drop 19 (now (recorded .entry))))) ⌝ }
+    ensures { λ r. ⌜ r ≡ cond (right (now (recorded .entry))) 0 1 ⌝ }
 {
     if same_answer(recorded) {
         return 0;
@@ -45,7 +46,7 @@ pub struct Replayed {
 
 // Replays the records that the block holds whole, and counts on.
 fn replay(block: &[u8], before: Replayed) -> Replayed
-    ensures { λ r. ⌜ r .used ≤ length (now (block .entry)) ⌝ }
+    ensures { λ r. ⌜ r ≡ countOn before (now (block .entry)) ⌝ }
 {
     let mut records = before.records;
     let mut differ = before.differ;
@@ -75,7 +76,8 @@ pub struct Kept {
 // Replays the first `have` bytes and keeps what is left of them.
 fn replay_block(buffer: &mut [u8], have: usize, more: bool, before: Replayed) -> Kept
     requires { ⌜ have ≤ length (now buffer) ⌝ }
-    ensures { λ r. ⌜ r .kept ≤ length (now (buffer .entry)) ⌝ }
+    ensures { λ r. ⌜ (r .kept ≤ length (now (buffer .entry))) × (r .replayed ≡ countOn before (take have (now (buffer .entry)))) ⌝ }
+    ensures { λ r. ⌜ take (r .kept) (now (buffer .exit)) ≡ drop (r .replayed .used) (take have (now (buffer .entry))) ⌝ }
 {
     let replayed = replay(&buffer[..have], before);
     let used = replayed.used;

@@ -1,14 +1,15 @@
--- `replay::differs` meets its contract: it is 0 only where the answers were found to be the same. Assumes nothing.
-use native.Mathlib.Omega.{arith}
+-- `replay::differs` meets its contract: it is 0 where the record was found right, and else 1. Assumes nothing.
 use borrow.Author.Needs.{needs}
 use Rattle.replay.proofs.differs.Statement.{statement}
 use Rattle.replay.proofs.differs.Tie as tie
 
 returns : tie.Need-returns
-returns c h = c .before .same-answer .ensures (c .if1 .taken)
+returns c = rw (← c .before .same-answer .ensures, c .if1 .taken)
 
 returns-2 : tie.Need-returns-2
-returns-2 c h = let z : ⊥ = omega arith in absurd z
+returns-2 c =
+    let e = c .before .before .before .before .before in
+    rw (← e .before .same-answer .ensures, e .if1 .left)
 
 pub differs-spec : {M : Type 1} → statement M
 differs-spec =

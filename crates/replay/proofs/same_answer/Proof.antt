@@ -1,14 +1,16 @@
 -- `replay::same_answer` meets its contract: an answer's 18 digits do not depend on what stood in its room. Assumes nothing.
 use mathlib.Core.Path.{_≡_, refl, sym, ap, _∙_}
-use mathlib.Core.Bool.{false≢true}
 use mathlib.Core.List.{List}
 use Prim.Native.Nat.{ℕ, _-_, _≤_}
 use native.Mathlib.Omega.{arith}
 use lib.ListN.{length, take, drop, replicate, length-drop}
 use lib.Seq.{length-take-le, take-all, take-append-le}
 use borrow.Author.Needs.{needs}
+use borrow.Author.Tests.{lt-ltb, le-ltb}
 use Rattle.line.specs.One.{textOf, answered}
 use Rattle.line.proofs.Turns.{textOf-length}
+use Rattle.replay.specs.Record.{sameText, right}
+use Rattle.replay.proofs.RecordLaws.{tells}
 use Rattle.replay.proofs.same_answer.Statement.{statement}
 use Rattle.replay.proofs.same_answer.Tie as tie
 
@@ -21,7 +23,8 @@ digits-are recorded room n =
     rw (whole, n, take-append-le 18 (textOf request) (drop 19 room) behind)
 
 returns : tie.Need-returns
-returns c h = absurd (false≢true h)
+unfolding right
+returns c = rw (lt-ltb _ _ (c .if1 .taken))
 
 slice-aggregate-same : tie.Need-slice-aggregate-same
 slice-aggregate-same c = sym (length-take-le 18 (c .before .before .before .before .before .before .before .args .recorded .now) (omega arith))
@@ -33,9 +36,13 @@ slice-aggregate-same-2 : tie.Need-slice-aggregate-same-2
 slice-aggregate-same-2 c = sym (length-take-le 18 (c .before .before .before .answer-line .last .1 .0) (array-share-prefix-answer (c .before)))
 
 returns-2 : tie.Need-returns-2
-returns-2 c h =
+unfolding right
+returns-2 c =
     let line = c .before .before .before .before .answer-line in
-    c .same .ensures .0 h ∙ ap (take 18) (line .ensures .1) ∙ digits-are (c .before .before .before .before .before .before .before .before .before .args .recorded .now) (replicate 19 0) refl
+    let recorded = c .before .before .before .before .before .before .before .before .before .args .recorded .now in
+    let digits = ap (take 18) (line .ensures .1) ∙ digits-are recorded (replicate 19 0) refl in
+    rw (le-ltb _ _ (c .before .before .before .before .before .before .before .if1 .left))
+    (tells (c .same .result) (take 18 recorded) (take 18 (line .last .1 .0)) (c .same .ensures .0) (c .same .ensures .1) ∙ ap (sameText (take 18 recorded)) digits)
 
 pub same-answer-spec : {M : Type 1} → statement M
 same-answer-spec =
