@@ -11,7 +11,7 @@ use lib.Seq.{length-take-le, take-take}
 use Rattle.blocks.proofs.Front.{at-front}
 use Rattle.line.specs.Whole.{whole}
 use Rattle.line.proofs.RunLaws.{used-within}
-use Rattle.line.proofs.LongLines.{NoFeed, none-at-start}
+use Rattle.line.proofs.LongLines.{Unbroken, none-at-start}
 use Rattle.line.proofs.WholeLaws.{whole-at-end, no-feed-left, whole-by-blocks, whole-long-starts}
 use Rattle.hatchyarn.specs.Kept.{Keeps, Turns, last, turn}
 
@@ -24,9 +24,9 @@ keeps-rest false text = λ e more. whole-by-blocks e text more
 pub keeps-start : (e : Bool) (n : ℕ) (text : List ℕ) → whole e text .used ≡ 0 → 20 < n → n ≤ length text → Keeps e text (take n text)
 keeps-start true n text none long within = let z : ⊥ = omega (arith, whole-at-end text) in absurd z
 keeps-start false n text none long within =
-    let feeds : NoFeed text = rw none at (no-feed-left text) in
+    let unbroken : Unbroken text = rw none at (no-feed-left text) in
     let n-long : 20 < length (take n text) = omega (arith, length-take-le n text within) in
-    let alike = whole-long-starts text (take n text) feeds (none-at-start n text feeds) (omega arith) n-long in
+    let alike = whole-long-starts text (take n text) unbroken (none-at-start n text unbroken) (omega arith) n-long in
     λ e more. (rw none at (whole-by-blocks e text more)) ∙ ap (λ (w : List ℕ). whole false text .bytes ++ w) (alike e more)
 
 -- the block: the bytes that are left of the first `have` are moved to the front of the buffer
@@ -52,6 +52,7 @@ module _ (e : Bool) (buffer moved : List ℕ) (have used : ℕ) (inside : have �
       sym (take-take n (have - used) moved (omega arith)) ∙ ap (take n) (front ∙ ap (λ (k : ℕ). drop k (take have buffer)) none) in
       rw start (keeps-start e n (take have buffer) (omega (arith, is-used)) long (omega (arith, have-length)))
 
+-- so the answers to all of the input are written, each once and in order
 pub by-turns : (kept input written : List ℕ) → Turns kept input written → written ≡ whole true (kept ++ input) .bytes
 by-turns kept input written (last _) = rw (append-nil kept)
 by-turns kept input written (turn _ block next rest more keeps on) =

@@ -5,8 +5,8 @@ use mathlib.Core.List.{List, [], _++_}
 use Prim.Native.Nat.{ℕ}
 use Rattle.line.specs.Whole.{whole}
 
--- nothing at the end of the input. Before it, bytes that stand for what the text leaves unanswered: whatever more is read, and whether or not it is
--- the last, the text and then that get the answers of the text, and then those of the kept bytes and that
+-- at the end of the input nothing. Before it, bytes that stand for what the text leaves unanswered: whatever more is read, up to the end or not, the
+-- text with it gets the answers of the text alone, and then those of the kept bytes with it
 abbrev pub Keeps : Bool → List ℕ → List ℕ → Type 0
 Keeps true text kept = kept ≡ []
 Keeps false text kept = (atEnd : Bool) (more : List ℕ) → whole atEnd (text ++ more) .bytes ≡ whole false text .bytes ++ whole atEnd (kept ++ more) .bytes

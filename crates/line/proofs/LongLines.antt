@@ -30,21 +30,21 @@ long-lines-alike a b long-a long-b = too-long a long-a ∙ sym (too-long b long-
 -- ---- the start of a line, and what is read behind it
 
 -- bytes with no line feed among them
-abbrev pub NoFeed : List ℕ → Type 0
-NoFeed s = lineLength s ≡ length s
+abbrev pub Unbroken : List ℕ → Type 0
+Unbroken s = lineLength s ≡ length s
 
 feed-by : (x : Bool) (l n k j : ℕ) → (l ≡ n → k ≡ j) → cond x 0 (suc l) ≡ suc n → cond x 0 (suc k) ≡ suc j
 feed-by true l n k j r h = let z : ⊥ = omega arith in absurd z
 feed-by false l n k j r h = ap suc (r (omega arith))
 
 -- then there is none among the first of them either
-pub none-at-start : (n : ℕ) (s : List ℕ) → NoFeed s → NoFeed (take n s)
+pub none-at-start : (n : ℕ) (s : List ℕ) → Unbroken s → Unbroken (take n s)
 none-at-start zero s h = refl
 none-at-start (suc n) [] h = refl
 none-at-start (suc n) (b ∷ s) h = feed-by (eqb b 0x0A) (lineLength s) (length s) _ _ (none-at-start n s) h
 
 -- they lengthen the first line of what stands behind them
-longer : (s v : List ℕ) → NoFeed s → lineLength (s ++ v) ≡ length s + lineLength v
+longer : (s v : List ℕ) → Unbroken s → lineLength (s ++ v) ≡ length s + lineLength v
 longer [] v h = omega arith
 longer (b ∷ s) v h = feed-by (eqb b 0x0A) (lineLength s) (length s) (lineLength (s ++ v)) (length s + lineLength v) (longer s v) h ∙ omega arith
 
@@ -52,7 +52,7 @@ longer (b ∷ s) v h = feed-by (eqb b 0x0A) (lineLength s) (length s) (lineLengt
 abbrev after-long : Bool → ℕ → Bool → List ℕ → List ℕ → List ℕ
 after-long some m e v o = cond some (textBy (zeros 1) ++ runOf m e (drop (takes e v) v) (drop 19 o) .bytes) o
 
-module _ (s : List ℕ) (none : NoFeed s) (long : 20 < length s) where
+module _ (s : List ℕ) (none : Unbroken s) (long : 20 < length s) where
   -- the bytes that the first line takes then
   longer-takes : (x e : Bool) (v : List ℕ) → ltb (lineLength v) (length v) ≡ x → takes e (s ++ v) ≡ cond (cond x true e) (length s + takes e v) 0
   longer-takes true e v q =
@@ -79,7 +79,7 @@ module _ (s : List ℕ) (none : NoFeed s) (long : 20 < length s) where
   run-over m e v o = let line = ltb (lineLength v) (length v) in run-by (cond line true e) m e v o (longer-takes line e v refl)
 
 -- whatever v stands behind two starts of long lines, it gets the same answers
-pub long-starts-alike : (s t : List ℕ) → NoFeed s → NoFeed t → 20 < length s → 20 < length t → (m : ℕ) (e : Bool) (v o : List ℕ)
+pub long-starts-alike : (s t : List ℕ) → Unbroken s → Unbroken t → 20 < length s → 20 < length t → (m : ℕ) (e : Bool) (v o : List ℕ)
     → runOf m e (s ++ v) o .bytes ≡ runOf m e (t ++ v) o .bytes
 long-starts-alike s t none-s none-t long-s long-t zero e v o = rw (full 0 e (s ++ v) o refl, full 0 e (t ++ v) o refl)
 long-starts-alike s t none-s none-t long-s long-t (suc m) e v o = run-over s none-s long-s m e v o ∙ sym (run-over t none-t long-t m e v o)

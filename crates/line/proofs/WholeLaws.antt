@@ -18,7 +18,7 @@ use Rattle.line.specs.Run.{Done, runOf, linesIn}
 use Rattle.line.specs.Whole.{whole}
 use Rattle.line.proofs.Turns.{takes, stops, goes}
 use Rattle.line.proofs.RunLaws.{used-within, continued, unchanged, by-blocks, all-answered}
-use Rattle.line.proofs.LongLines.{NoFeed, long-starts-alike}
+use Rattle.line.proofs.LongLines.{Unbroken, long-starts-alike}
 
 -- ---- more room than a whole run has changes nothing
 
@@ -36,13 +36,13 @@ lines-within e [] = le-refl 0
 lines-within e (b ∷ []) = one-by (eqb b 0x0A) e
 lines-within e (b ∷ c ∷ t) = more-by (eqb b 0x0A) _ _ (lines-within e (c ∷ t))
 
-none-left : (e : Bool) (t : List ℕ) → takes e (drop (whole e t .used) t) ≡ 0
-none-left e t = all-answered (length t) e t [] (lines-within e t)
+leaves-none : (e : Bool) (t : List ℕ) → takes e (drop (whole e t .used) t) ≡ 0
+leaves-none e t = all-answered (length t) e t [] (lines-within e t)
 
 enough-by : (k : ℕ) (e : Bool) (t : List ℕ) → runOf (length t + k) e t [] ≡ whole e t
 enough-by k e t =
     let d = whole e t in
-    continued (length t) k e t [] ∙ rw (stops k e (drop (d .used) t) (drop (d .lines * 19) []) (none-left e t)) (simp (drop-nil, append-nil, add-zero))
+    continued (length t) k e t [] ∙ rw (stops k e (drop (d .used) t) (drop (d .lines * 19) []) (leaves-none e t)) (simp (drop-nil, append-nil, add-zero))
 
 enough : (m : ℕ) (e : Bool) (t : List ℕ) → length t ≤ m → runOf m e t [] ≡ whole e t
 enough m e t h = let p : m ≡ length t + (m - length t) = omega arith in rw p (enough-by (m - length t) e t)
@@ -74,7 +74,7 @@ nothing-left (suc m) e t o some none = by (takes e t) refl
 
 -- with the mark all is used
 pub whole-at-end : (t : List ℕ) → whole true t .used ≡ length t
-whole-at-end t = omega (arith, used-within (length t) true t [], by (drop (whole true t .used) t) (none-left true t), length-drop (whole true t .used) t)
+whole-at-end t = omega (arith, used-within (length t) true t [], by (drop (whole true t .used) t) (leaves-none true t), length-drop (whole true t .used) t)
   where
     by-feed : (x : Bool) (l n : ℕ) → cond x (suc l) n ≡ 0 → n ≡ 0
     by-feed true l n h = let z : ⊥ = omega arith in absurd z
@@ -84,14 +84,14 @@ whole-at-end t = omega (arith, used-within (length t) true t [], by (drop (whole
     by s h = by-feed (ltb (lineLength s) (length s)) (lineLength s) (length s) h
 
 -- without it no line feed is left
-pub no-feed-left : (t : List ℕ) → NoFeed (drop (whole false t .used) t)
-no-feed-left t = by (drop (whole false t .used) t) (none-left false t)
+pub no-feed-left : (t : List ℕ) → Unbroken (drop (whole false t .used) t)
+no-feed-left t = by (drop (whole false t .used) t) (leaves-none false t)
   where
     by-feed : (x : Bool) (l n : ℕ) → ltb l n ≡ x → cond x (suc l) 0 ≡ 0 → n ≤ l
     by-feed true l n q h = let z : ⊥ = omega arith in absurd z
     by-feed false l n q h = ltb-false l n q
 
-    by : (s : List ℕ) → takes false s ≡ 0 → NoFeed s
+    by : (s : List ℕ) → takes false s ≡ 0 → Unbroken s
     by s h = omega (arith, by-feed (ltb (lineLength s) (length s)) (lineLength s) (length s) refl h, end-within s 0 (omega arith))
 
 -- block by block
@@ -109,7 +109,7 @@ whole-by-blocks e t v =
 -- ---- long lines
 
 -- two starts of long lines are the same to a whole run, whatever v is read behind them
-pub whole-long-starts : (s t : List ℕ) → NoFeed s → NoFeed t → 20 < length s → 20 < length t → (e : Bool) (v : List ℕ)
+pub whole-long-starts : (s t : List ℕ) → Unbroken s → Unbroken t → 20 < length s → 20 < length t → (e : Bool) (v : List ℕ)
     → whole e (s ++ v) .bytes ≡ whole e (t ++ v) .bytes
 whole-long-starts s t none-s none-t long-s long-t e v =
     let k = length (s ++ v) + length (t ++ v) in
