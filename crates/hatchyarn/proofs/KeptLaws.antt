@@ -6,12 +6,12 @@ use mathlib.Core.Bool.{Bool, true, false}
 use mathlib.Core.List.{List, [], _++_, append-assoc, append-nil}
 use Prim.Native.Nat.{ℕ, _-_, _<_, _≤_}
 use native.Mathlib.Omega.{arith}
-use lib.ListN.{length, take, drop, drop-of-length-le}
+use lib.ListN.{length, take, drop, length-drop, drop-of-length-le}
 use lib.Seq.{length-take-le, take-take}
 use Rattle.blocks.proofs.Front.{at-front}
 use Rattle.line.specs.Whole.{whole}
 use Rattle.line.proofs.RunLaws.{used-within}
-use Rattle.line.proofs.LongLines.{Unbroken, none-at-start}
+use Rattle.line.proofs.LongLines.{none-at-start}
 use Rattle.line.proofs.WholeLaws.{whole-at-end, no-feed-left, whole-by-blocks, whole-long-starts}
 use Rattle.hatchyarn.specs.Kept.{Keeps, Turns, last, turn}
 
@@ -20,14 +20,16 @@ pub keeps-rest : (e : Bool) (text : List ℕ) → Keeps e text (drop (whole e te
 keeps-rest true text = drop-of-length-le text {i = whole true text .used} (omega (arith, whole-at-end text))
 keeps-rest false text = λ e more. whole-by-blocks e text more
 
--- the first bytes of a text that is the start of a long line
-pub keeps-start : (e : Bool) (n : ℕ) (text : List ℕ) → whole e text .used ≡ 0 → 20 < n → n ≤ length text → Keeps e text (take n text)
-keeps-start true n text none long within = let z : ⊥ = omega (arith, whole-at-end text) in absurd z
-keeps-start false n text none long within =
-    let unbroken : Unbroken text = rw none at (no-feed-left text) in
-    let n-long : 20 < length (take n text) = omega (arith, length-take-le n text within) in
-    let alike = whole-long-starts text (take n text) unbroken (none-at-start n text unbroken) (omega arith) n-long in
-    λ e more. (rw none at (whole-by-blocks e text more)) ∙ ap (λ (w : List ℕ). whole false text .bytes ++ w) (alike e more)
+-- the first n bytes of what is left, where they are more than 20: they start a long line
+pub keeps-start : (e : Bool) (n : ℕ) (text : List ℕ)
+    → (let rest = drop (whole e text .used) text in 20 < n → n ≤ length rest → Keeps e text (take n rest))
+keeps-start true n text long within = let z : ⊥ = omega (arith, whole-at-end text, length-drop (whole true text .used) text) in absurd z
+keeps-start false n text long within =
+    let rest = drop (whole false text .used) text in
+    let unbroken = no-feed-left text in
+    let n-long : 20 < length (take n rest) = omega (arith, length-take-le n rest within) in
+    let alike = whole-long-starts rest (take n rest) unbroken (none-at-start n rest unbroken) (omega arith) n-long in
+    λ e more. whole-by-blocks e text more ∙ ap (λ (w : List ℕ). whole false text .bytes ++ w) (alike e more)
 
 -- the block: the bytes that are left of the first `have` are moved to the front of the buffer
 module _ (e : Bool) (buffer moved : List ℕ) (have used : ℕ) (inside : have ≤ length buffer) (is-used : used ≡ whole e (take have buffer) .used) (is-moved : moved ≡ take (have - used) (drop used buffer) ++ drop (have - used) buffer) where
@@ -44,13 +46,11 @@ module _ (e : Bool) (buffer moved : List ℕ) (have used : ℕ) (inside : have �
   pub kept-rest : Keeps e (take have buffer) (take (have - used) moved)
   kept-rest = rw (front, is-used) (keeps-rest e (take have buffer))
 
-  -- they fill the buffer, and n of them are kept
-  pub kept-start : length buffer ≤ have - used → 32 ≤ length buffer → (n : ℕ) → 20 < n → n ≤ 32 → Keeps e (take have buffer) (take n moved)
-  kept-start fills size n long fits =
-      let none : used ≡ 0 = omega arith in
-      let start : take n moved ≡ take n (take have buffer) =
-      sym (take-take n (have - used) moved (omega arith)) ∙ ap (take n) (front ∙ ap (λ (k : ℕ). drop k (take have buffer)) none) in
-      rw start (keeps-start e n (take have buffer) (omega (arith, is-used)) long (omega (arith, have-length)))
+  -- there are many, and n of them are kept
+  pub kept-start : 32 ≤ have - used → (n : ℕ) → 20 < n → n ≤ 32 → Keeps e (take have buffer) (take n moved)
+  kept-start many n long few =
+      let start : take n moved ≡ take n (drop used (take have buffer)) = sym (take-take n (have - used) moved (omega arith)) ∙ ap (take n) front in
+      rw (start, is-used) (keeps-start e n (take have buffer) long (omega (arith, is-used, have-length, length-drop (whole e (take have buffer) .used) (take have buffer))))
 
 -- so the answers to all of the input are written, each once and in order
 pub by-turns : (kept input written : List ℕ) → Turns kept input written → written ≡ whole true (kept ++ input) .bytes

@@ -6,6 +6,7 @@ use Prim.Native.Nat.{ℕ, _+_, _-_, _<_, _≤_}
 use native.Mathlib.Omega.{arith}
 use lib.ListN.{length, take, drop, length-drop}
 use lib.Seq.{take-all, drop-drop}
+use Rattle.line.specs.One.{textOf}
 use Rattle.line.specs.Run.{Done, done, runOf}
 use Rattle.line.specs.Whole.{whole}
 use Rattle.line.proofs.RunLaws.{ran-within}
@@ -20,7 +21,7 @@ module _ (m start : ℕ) (e : Bool) (text room bytes : List ℕ) (lines used : �
 
   -- it stays within the room and the text
   pub ran-inside : start ≤ length text → (lines ≤ m) × (start + used ≤ length text)
-  ran-inside inside = let w = ran-within m e (drop start text) room bytes lines used over-rest in (w .0, omega (arith, w .1, length-drop start text))
+  ran-inside inside = let w = ran-within textOf m e (drop start text) room bytes lines used over-rest in (w .0, omega (arith, w .1, length-drop start text))
 
   -- what is used of the rest, and then of what is left of it
   pub ran-on : whole e (drop start text) .used ≡ used + whole e (drop (start + used) text) .used

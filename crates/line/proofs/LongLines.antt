@@ -12,11 +12,11 @@ use lib.ListN.{length, take, drop, length-append}
 use lib.Seq.{take-append-add, drop-append-add}
 use borrow.Author.Tests.{lt-ltb, le-ltb, ltb-true, ltb-false, ne-eqb}
 use Rattle.text.specs.Fields.{readOf}
-use Rattle.text.specs.Lines.{lineLength}
+use Rattle.text.specs.Lines.{lineLength, takes}
 use Rattle.answer.specs.Asked.{zeros}
 use Rattle.line.specs.One.{textBy, answerOf, textOf}
 use Rattle.line.specs.Run.{runOf}
-use Rattle.line.proofs.Turns.{takes, stops, full, goes}
+use Rattle.line.proofs.Turns.{stops, full, goes}
 
 -- status 1 and zeros
 too-long : (line : List ℕ) → 20 < length line → textOf line ≡ textBy (zeros 1)
@@ -68,12 +68,12 @@ module _ (s : List ℕ) (none : Unbroken s) (long : 20 < length s) where
 
   run-by : (some : Bool) (m : ℕ) (e : Bool) (v o : List ℕ) → takes e (s ++ v) ≡ cond some (length s + takes e v) 0
       → runOf (suc m) e (s ++ v) o .bytes ≡ after-long some m e v o
-  run-by false m e v o q = rw (stops (suc m) e (s ++ v) o q)
+  run-by false m e v o q = rw (stops textOf (suc m) e (s ++ v) o q)
   run-by true m e v o q =
       let some : 0 < takes e (s ++ v) = omega arith in
       let line : take (lineLength (s ++ v)) (s ++ v) ≡ s ++ take (lineLength v) v = rw (longer s v none) (take-append-add s v (lineLength v)) in
       let size : 20 < length (s ++ take (lineLength v) v) = omega (arith, length-append s (take (lineLength v) v)) in
-      rw (goes m e (s ++ v) o some, line, too-long _ size, q, drop-append-add)
+      rw (goes textOf m e (s ++ v) o some, line, too-long _ size, q, drop-append-add)
 
   run-over : (m : ℕ) (e : Bool) (v o : List ℕ) → runOf (suc m) e (s ++ v) o .bytes ≡ after-long (cond (ltb (lineLength v) (length v)) true e) m e v o
   run-over m e v o = let line = ltb (lineLength v) (length v) in run-by (cond line true e) m e v o (longer-takes line e v refl)
@@ -81,5 +81,5 @@ module _ (s : List ℕ) (none : Unbroken s) (long : 20 < length s) where
 -- whatever v stands behind two starts of long lines, it gets the same answers
 pub long-starts-alike : (s t : List ℕ) → Unbroken s → Unbroken t → 20 < length s → 20 < length t → (m : ℕ) (e : Bool) (v o : List ℕ)
     → runOf m e (s ++ v) o .bytes ≡ runOf m e (t ++ v) o .bytes
-long-starts-alike s t none-s none-t long-s long-t zero e v o = rw (full 0 e (s ++ v) o refl, full 0 e (t ++ v) o refl)
+long-starts-alike s t none-s none-t long-s long-t zero e v o = rw (full textOf 0 e (s ++ v) o refl, full textOf 0 e (t ++ v) o refl)
 long-starts-alike s t none-s none-t long-s long-t (suc m) e v o = run-over s none-s long-s m e v o ∙ sym (run-over t none-t long-t m e v o)

@@ -12,37 +12,34 @@ use lib.Dec.{ltb, eqb}
 use lib.ListN.{length, drop, length-append, length-drop}
 use lib.Seq.{drop-nil}
 use borrow.Author.Tests.{ltb-false}
-use Rattle.text.specs.Lines.{lineLength}
+use Rattle.text.specs.Lines.{lineLength, takes, withByte, linesOf}
 use Rattle.text.proofs.LineLaws.{end-within}
-use Rattle.line.specs.Run.{Done, runOf, linesIn}
+use Rattle.line.specs.Run.{Done, runOf}
+use Rattle.line.specs.One.{textOf}
 use Rattle.line.specs.Whole.{whole}
-use Rattle.line.proofs.Turns.{takes, stops, goes}
+use Rattle.line.proofs.Turns.{stops, goes}
 use Rattle.line.proofs.RunLaws.{used-within, continued, unchanged, by-blocks, all-answered}
 use Rattle.line.proofs.LongLines.{Unbroken, long-starts-alike}
 
 -- ---- more room than a whole run has changes nothing
 
-one-by : (x e : Bool) → cond x 1 (cond e 1 0) ≤ 1
-one-by true e = omega arith
-one-by false true = omega arith
-one-by false false = omega arith
+more-by : (x e : Bool) (c : ℕ) (lines : List (List ℕ)) (n : ℕ) → length lines ≤ n → length (cond x ([] ∷ lines) (withByte e c lines)) ≤ suc n
+more-by true e c lines n h = omega arith
+more-by false e c (line ∷ lines) n h = omega arith
+more-by false true c [] n h = omega arith
+more-by false false c [] n h = omega arith
 
-more-by : (x : Bool) (l n : ℕ) → l ≤ n → cond x (suc l) l ≤ suc n
-more-by true l n h = omega arith
-more-by false l n h = omega arith
-
-lines-within : (e : Bool) (t : List ℕ) → linesIn e t ≤ length t
+lines-within : (e : Bool) (t : List ℕ) → length (linesOf e t) ≤ length t
 lines-within e [] = le-refl 0
-lines-within e (b ∷ []) = one-by (eqb b 0x0A) e
-lines-within e (b ∷ c ∷ t) = more-by (eqb b 0x0A) _ _ (lines-within e (c ∷ t))
+lines-within e (b ∷ t) = more-by (eqb b 0x0A) e b (linesOf e t) (length t) (lines-within e t)
 
 leaves-none : (e : Bool) (t : List ℕ) → takes e (drop (whole e t .used) t) ≡ 0
-leaves-none e t = all-answered (length t) e t [] (lines-within e t)
+leaves-none e t = all-answered textOf (length t) e t [] (lines-within e t)
 
 enough-by : (k : ℕ) (e : Bool) (t : List ℕ) → runOf (length t + k) e t [] ≡ whole e t
 enough-by k e t =
     let d = whole e t in
-    continued (length t) k e t [] ∙ rw (stops k e (drop (d .used) t) (drop (d .lines * 19) []) (leaves-none e t)) (simp (drop-nil, append-nil, add-zero))
+    continued textOf (length t) k e t [] ∙ rw (stops textOf k e (drop (d .used) t) (drop (d .lines * 19) []) (leaves-none e t)) (simp (drop-nil, append-nil, add-zero))
 
 enough : (m : ℕ) (e : Bool) (t : List ℕ) → length t ≤ m → runOf m e t [] ≡ whole e t
 enough m e t h = let p : m ≡ length t + (m - length t) = omega arith in rw p (enough-by (m - length t) e t)
@@ -55,10 +52,10 @@ whole-goes-on m e t o =
     let d = runOf m e t [] in
     let k = length t in
     let rest = drop (d .used) t in
-    let on : runOf (m + k) e t [] .used ≡ d .used + runOf k e rest (drop (d .lines * 19) []) .used = ap (λ (x : Done). x .used) (continued m k e t []) in
+    let on : runOf (m + k) e t [] .used ≡ d .used + runOf k e rest (drop (d .lines * 19) []) .used = ap (λ (x : Done). x .used) (continued textOf m k e t []) in
     let more : length t ≤ m + k = omega arith in
     let less : length rest ≤ k = omega (arith, length-drop (d .used) t) in
-    rw (ap (λ (x : Done). x .used) (unchanged m e t o)) (rw (enough (m + k) e t more, drop-nil, enough k e rest less) at on)
+    rw (ap (λ (x : Done). x .used) (unchanged textOf m e t o)) (rw (enough (m + k) e t more, drop-nil, enough k e rest less) at on)
 
 -- nothing used: no line left
 pub nothing-left : (m : ℕ) (e : Bool) (t o : List ℕ) → 0 < m → runOf m e t o .used ≡ 0 → whole e t .used ≡ 0
@@ -66,15 +63,15 @@ nothing-left zero e t o some none = let z : ⊥ = omega arith in absurd z
 nothing-left (suc m) e t o some none = by (takes e t) refl
   where
     by : (n : ℕ) → takes e t ≡ n → whole e t .used ≡ 0
-    by zero q = ap (λ (x : Done). x .used) (stops (length t) e t [] q)
+    by zero q = ap (λ (x : Done). x .used) (stops textOf (length t) e t [] q)
     by (suc n) q =
         let line : 0 < takes e t = omega arith in
-        let z : ⊥ = omega (arith, ap (λ (x : Done). x .used) (goes m e t o line)) in
+        let z : ⊥ = omega (arith, ap (λ (x : Done). x .used) (goes textOf m e t o line)) in
         absurd z
 
 -- with the mark all is used
 pub whole-at-end : (t : List ℕ) → whole true t .used ≡ length t
-whole-at-end t = omega (arith, used-within (length t) true t [], by (drop (whole true t .used) t) (leaves-none true t), length-drop (whole true t .used) t)
+whole-at-end t = omega (arith, used-within textOf (length t) true t [], by (drop (whole true t .used) t) (leaves-none true t), length-drop (whole true t .used) t)
   where
     by-feed : (x : Bool) (l n : ℕ) → cond x (suc l) n ≡ 0 → n ≡ 0
     by-feed true l n h = let z : ⊥ = omega arith in absurd z
@@ -103,7 +100,7 @@ whole-by-blocks e t v =
     let more : length (t ++ v) ≤ d .lines + k = omega arith in
     let less : length (rest ++ v) ≤ k = omega (arith, length-append t v, length-append rest v, length-drop (d .used) t) in
     let two : runOf (d .lines + k) e (t ++ v) [] .bytes ≡ d .bytes ++ runOf k e (rest ++ v) (drop (d .lines * 19) []) .bytes =
-    ap (λ (x : Done). x .bytes) (by-blocks (length t) k e t v []) in
+    ap (λ (x : Done). x .bytes) (by-blocks textOf (length t) k e t v []) in
     rw (enough (d .lines + k) e (t ++ v) more, drop-nil, enough k e (rest ++ v) less) at two
 
 -- ---- long lines

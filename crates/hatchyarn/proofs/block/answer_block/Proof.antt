@@ -37,7 +37,7 @@ returns-2 c =
     let keep = c .before .before .before .keep in (
       (omega arith, refl),
       λ ok.
-          let start = kept-start (a .at-end) (a .buffer .now) (keep .last .0) (a .have) (lines .result .used) (omega arith) (lines .ensures .1 ok) (keep .ensures) (omega arith) (omega arith) in
+          let start = kept-start (a .at-end) (a .buffer .now) (keep .last .0) (a .have) (lines .result .used) (omega arith) (lines .ensures .1 ok) (keep .ensures) (omega arith) in
           search (start, lit<, lit≤),
     )
 
