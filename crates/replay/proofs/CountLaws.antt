@@ -3,46 +3,36 @@ use mathlib.Core.Path.{_≡_, refl, sym, ap, _∙_}
 use mathlib.Core.Bool.{Bool, true, false, cond}
 use mathlib.Core.List.{List, [], _∷_, _++_}
 use Prim.Native.Nat.{ℕ, suc, _+_, _-_, _%_, _^_, _<_, _≤_}
-use native.Mathlib.Nat.{add-zero, zero-add, suc-add, le-of-suc-le-suc, not-suc-le-zero}
+use native.Mathlib.Nat.{add-zero, zero-add}
 use native.Mathlib.Omega.{arith}
 use lib.Dec.{eqb}
 use lib.ListN.{length, take, drop, length-append, length-drop}
 use lib.Seq.{length-take-le, drop-drop}
-use Rattle.text.specs.Lines.{lineLength, lineEnd}
+use borrow.Author.Tests.{lt-ltb, le-ltb}
+use Rattle.text.specs.Lines.{lineLength, lineEnd, takes, withByte, bytesIn}
 use Rattle.text.proofs.LineLaws.{end-within}
+use Rattle.text.proofs.NextLine.{no-line, first-line}
 use Rattle.replay.specs.Record.{right}
-use Rattle.replay.specs.Counted.{onto, recordsIn, wrong, taken, countOn}
+use Rattle.replay.specs.Counted.{recordsIn, wrong, countOn}
 use Rattle.replay.specs.declared.Replayed.{Replayed}
 
 -- a line feed: one record, and then those behind it
-first-by : (x : Bool) (b : ℕ) (t : List ℕ)
-    → (lineLength t < length t → recordsIn t ≡ take (lineLength t) t ∷ recordsIn (drop (suc (lineLength t)) t))
-    → cond x 0 (suc (lineLength t)) < suc (length t)
-    → cond x ([] ∷ recordsIn t) (onto b (recordsIn t)) ≡ take (cond x 0 (suc (lineLength t))) (b ∷ t) ∷ recordsIn (drop (suc (cond x 0 (suc (lineLength t)))) (b ∷ t))
-first-by true b t r h = refl
-first-by false b t r h = ap (onto b) (r (le-of-suc-le-suc h))
-
 pub first-record : (t : List ℕ) → lineLength t < length t → recordsIn t ≡ take (lineLength t) t ∷ recordsIn (drop (suc (lineLength t)) t)
-first-record [] h = absurd (not-suc-le-zero h)
-first-record (b ∷ t) h = first-by (eqb b 0x0A) b t (first-record t) h
+first-record t h =
+    let taken : takes false t ≡ suc (lineLength t) = rw (lt-ltb (lineLength t) (length t) h) refl in
+    first-line false t (omega (arith, taken)) ∙ ap (λ (k : ℕ). take (lineLength t) t ∷ recordsIn (drop k t)) taken
 
 -- none: no record
-none-by : (x : Bool) (b : ℕ) (t : List ℕ) → (length t ≤ lineLength t → recordsIn t ≡ []) → suc (length t) ≤ cond x 0 (suc (lineLength t))
-    → cond x ([] ∷ recordsIn t) (onto b (recordsIn t)) ≡ []
-none-by true b t r h = absurd (not-suc-le-zero h)
-none-by false b t r h = ap (onto b) (r (le-of-suc-le-suc h))
-
 pub no-record : (t : List ℕ) → length t ≤ lineLength t → recordsIn t ≡ []
-no-record [] h = refl
-no-record (b ∷ t) h = none-by (eqb b 0x0A) b t (no-record t) h
+no-record t h = no-line false t (rw (le-ltb (lineLength t) (length t) h) refl)
 
 -- they lie within the text
-within-by : (x : Bool) (b n : ℕ) (rs : List (List ℕ)) → taken rs ≤ n → taken (cond x ([] ∷ rs) (onto b rs)) ≤ suc n
+within-by : (x : Bool) (b n : ℕ) (rs : List (List ℕ)) → bytesIn rs ≤ n → bytesIn (cond x ([] ∷ rs) (withByte false b rs)) ≤ suc n
 within-by true b n rs h = omega arith
 within-by false b n [] h = omega arith
 within-by false b n (r ∷ rs) h = omega arith
 
-pub taken-within : (t : List ℕ) → taken (recordsIn t) ≤ length t
+pub taken-within : (t : List ℕ) → bytesIn (recordsIn t) ≤ length t
 taken-within [] = omega arith
 taken-within (b ∷ t) = within-by (eqb b 0x0A) b (length t) (recordsIn t) (taken-within t)
 
@@ -51,11 +41,11 @@ taken-within (b ∷ t) = within-by (eqb b 0x0A) b (length t) (recordsIn t) (take
 -- so many bytes used and so much counted, and then a text
 abbrev pub countFrom : ℕ → ℕ → ℕ → List ℕ → Replayed
 countFrom used n d text =
-    record { used = used + taken (recordsIn text); records = (n + length (recordsIn text)) % 2 ^ 64; differ = (d + wrong (recordsIn text)) % 2 ^ 64 }
+    record { used = used + bytesIn (recordsIn text); records = (n + length (recordsIn text)) % 2 ^ 64; differ = (d + wrong (recordsIn text)) % 2 ^ 64 }
 
 -- from the start of a block
 pub counts-whole : (n d : ℕ) (block : List ℕ) → countFrom 0 n d block ≡ countOn (record { used = 0; records = n; differ = d }) block
-counts-whole n d block = rw (zero-add (taken (recordsIn block)))
+counts-whole n d block = rw (zero-add (bytesIn (recordsIn block)))
 
 -- a count that wraps may be taken in steps
 wraps : (a b k : ℕ) → ((a + b) % 2 ^ 64 + k) % 2 ^ 64 ≡ (a + (b + k)) % 2 ^ 64
@@ -76,7 +66,7 @@ counts-on block start end n d w inside is-end on is-w =
     let part : end - start ≡ k = omega (arith, is-end) in
     let told : w ≡ cond (right (take k rest)) 0 1 = rw part at is-w in
     let rs = recordsIn (drop (suc k) rest) in
-    let bytes : end + 1 + taken rs ≡ start + suc (k + taken rs) = omega (arith, is-end) in
+    let bytes : end + 1 + bytesIn rs ≡ start + (suc k + bytesIn rs) = omega (arith, is-end) in
     let counted : ((n + 1) % 2 ^ 64 + length rs) % 2 ^ 64 ≡ (n + suc (length rs)) % 2 ^ 64 = wraps n 1 (length rs) ∙ ap (λ (x : ℕ). (n + x) % 2 ^ 64) (omega arith) in
     rw (past, one, size, told) (λ i. record { used = bytes i; records = counted i; differ = wraps d (cond (right (take k rest)) 0 1) (wrong rs) i })
 
@@ -90,15 +80,15 @@ counts-out used n d text small-n small-d none =
 -- ---- block by block
 
 -- the records of two blocks are those of the first, and then those of what it leaves with the second behind it
-pub records-by-blocks : (t v : List ℕ) → recordsIn (t ++ v) ≡ recordsIn t ++ recordsIn (drop (taken (recordsIn t)) t ++ v)
+pub records-by-blocks : (t v : List ℕ) → recordsIn (t ++ v) ≡ recordsIn t ++ recordsIn (drop (bytesIn (recordsIn t)) t ++ v)
 records-by-blocks [] v = refl
 records-by-blocks (b ∷ t) v = by (eqb b 0x0A) (recordsIn t) refl (records-by-blocks t v)
   where
-    by : (x : Bool) (rs : List (List ℕ)) → eqb b 0x0A ≡ x → recordsIn (t ++ v) ≡ rs ++ recordsIn (drop (taken rs) t ++ v)
-        → cond x ([] ∷ recordsIn (t ++ v)) (onto b (recordsIn (t ++ v))) ≡ cond x ([] ∷ rs) (onto b rs) ++ recordsIn (drop (taken (cond x ([] ∷ rs) (onto b rs))) (b ∷ t) ++ v)
-    by true rs q h = rw (zero-add, ← h)
+    by : (x : Bool) (rs : List (List ℕ)) → eqb b 0x0A ≡ x → recordsIn (t ++ v) ≡ rs ++ recordsIn (drop (bytesIn rs) t ++ v)
+        → cond x ([] ∷ recordsIn (t ++ v)) (withByte false b (recordsIn (t ++ v))) ≡ cond x ([] ∷ rs) (withByte false b rs) ++ recordsIn (drop (bytesIn (cond x ([] ∷ rs) (withByte false b rs))) (b ∷ t) ++ v)
+    by true rs q h = let past : bytesIn ([] ∷ rs) ≡ suc (bytesIn rs) = omega arith in rw (past, ← h)
     by false [] q h = rw q
-    by false (r ∷ rs) q h = rw (suc-add, h)
+    by false (r ∷ rs) q h = let past : bytesIn ((b ∷ r) ∷ rs) ≡ suc (bytesIn (r ∷ rs)) = omega arith in rw (past, h)
 
 wrong-append : (rs qs : List (List ℕ)) → wrong (rs ++ qs) ≡ wrong rs + wrong qs
 wrong-append [] qs = omega arith
@@ -110,6 +100,6 @@ pub counted-by-blocks : (before : Replayed) (t v : List ℕ)
     let rest = drop (d .used) t ++ v in
     (countOn d rest .records ≡ countOn before (t ++ v) .records) × (countOn d rest .differ ≡ countOn before (t ++ v) .differ))
 counted-by-blocks before t v =
-    let rest = recordsIn (drop (taken (recordsIn t)) t ++ v) in
+    let rest = recordsIn (drop (bytesIn (recordsIn t)) t ++ v) in
     let all = records-by-blocks t v in
     (wraps (before .records) (length (recordsIn t)) (length rest) ∙ rw (all, length-append), wraps (before .differ) (wrong (recordsIn t)) (wrong rest) ∙ rw (all, wrong-append))
