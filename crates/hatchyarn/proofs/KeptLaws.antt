@@ -9,6 +9,7 @@ use native.Mathlib.Omega.{arith}
 use lib.ListN.{length, take, drop, length-drop, drop-of-length-le}
 use lib.Seq.{length-take-le, take-take}
 use Rattle.blocks.proofs.Front.{at-front}
+use Rattle.line.specs.One.{textOf}
 use Rattle.line.specs.Whole.{whole}
 use Rattle.line.proofs.RunLaws.{used-within}
 use Rattle.line.proofs.LongLines.{none-at-start}
@@ -37,7 +38,7 @@ module _ (e : Bool) (buffer moved : List ℕ) (have used : ℕ) (inside : have �
   have-length = length-take-le have buffer inside
 
   within : used ≤ have
-  within = omega (arith, is-used, have-length, used-within (length (take have buffer)) e (take have buffer) [])
+  within = omega (arith, is-used, have-length, used-within textOf (length (take have buffer)) e (take have buffer) [])
 
   front : take (have - used) moved ≡ drop used (take have buffer)
   front = at-front buffer moved used have within inside is-moved

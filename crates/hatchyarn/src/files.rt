@@ -49,6 +49,7 @@ fn answer_argument(i: usize, end: usize, buffer: &mut [u8], room: &mut [u8]) -> 
 
 fn answer_arguments(count: usize, end: usize, buffer: &mut [u8], room: &mut [u8])
     requires { ⌜ 32 ≤ length (now buffer) ⌝ }
+    requires { ⌜ 19 ≤ length (now room) ⌝ }
 {
     let mut i = 1;
     while i < count {

@@ -7,6 +7,7 @@ use native.Mathlib.Omega.{arith}
 use lib.ListN.{length, take, drop, length-drop}
 use lib.Seq.{length-take-le}
 use borrow.Author.Needs.{needs}
+use Rattle.line.specs.One.{textOf}
 use Rattle.line.specs.Whole.{whole}
 use Rattle.line.proofs.RunLaws.{used-within}
 use Rattle.hatchyarn.proofs.RanLaws.{ran-inside, ran-on, ran-out}
@@ -58,7 +59,7 @@ returns-2 c =
     let l = c .before .loop in
     let a = c .before .before .before .before .args in
     let rest = drop (l .start) (a .text .now) in
-    (omega arith, λ h. omega (arith, used-within (length rest) (a .at-end) rest [], length-drop (l .start) (a .text .now)))
+    (omega arith, λ h. omega (arith, used-within textOf (length rest) (a .at-end) rest [], length-drop (l .start) (a .text .now)))
 
 returns-3 : tie.Need-returns-3 Inv-loop μ-loop
 returns-3 c =
