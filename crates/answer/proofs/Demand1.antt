@@ -12,7 +12,7 @@ use Rattle.flags.specs.Numbers.{isSet}
 use Rattle.flags.specs.Word.{wordOf, flagsOf, isFlags}
 use Rattle.flags.specs.declared.word.Flags.{Flags}
 use Rattle.flags.proofs.WordLaws.{is-masked}
-use Rattle.divide.specs.Divide.{accepts, divide}
+use Rattle.divide.specs.Divide.{accepts, refusedSteps, divide}
 use Rattle.request.specs.Operation.{ops, listed, widthOf, modeOf, operationOf}
 use Rattle.request.specs.Judge.{raw, inLimits, judged}
 use Rattle.request.specs.declared.operation.Operation.the-variants.{Divide}
@@ -27,7 +27,7 @@ use Rattle.answer.proofs.Table.{statuses}
 -- ---- a refused divide is answered its refusal
 
 refused-is : (n : ℕ) (s rep : Bool) (d b : ℕ) (f : Flags) → accepts n s d b ≡ false
-    → ofDivided (divide n s rep d b f) ≡ record { status = 6; flags = wordOf f; steps = divide n s rep d b f .steps; r = 0; s = 0 }
+    → ofDivided (divide n s rep d b f) ≡ record { status = 6; flags = wordOf f; steps = refusedSteps n s d b; r = 0; s = 0 }
 unfolding divide
 refused-is n s rep d b f e = rw e
 
@@ -55,7 +55,7 @@ module _ (mode flags x y : ℕ) (refused : RefusedDivide (raw 0x11 mode flags x 
   unfolding asked judged operationOf listed ops charted
   answered =
       rw (le-ltb 0x07 mode (refused .mode), admitted, width, refused-is (widthBy mode) (isSet 1 mode) (isSet 2 mode) x y (flagsOf flags) (refused .notAccepted))
-      (λ i. record { status = 6; flags = kept i; steps = divide (widthBy mode) (isSet 1 mode) (isSet 2 mode) x y (flagsOf flags) .steps; r = 0; s = 0 })
+      (λ i. record { status = 6; flags = kept i; steps = refusedSteps (widthBy mode) (isSet 1 mode) x y; r = 0; s = 0 })
 
 -- ---- and status 6 is given to nothing else
 

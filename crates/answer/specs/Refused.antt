@@ -4,8 +4,7 @@ use mathlib.Core.Bool.{false}
 use Prim.Native.Nat.{_+_, _^_, _≤_, _<_}
 use lib.Bits.{bitAnd}
 use Rattle.flags.specs.Numbers.{isSet}
-use Rattle.flags.specs.Word.{flagsOf}
-use Rattle.divide.specs.Divide.{accepts, divide}
+use Rattle.divide.specs.Divide.{accepts, refusedSteps}
 use Rattle.answer.specs.Asked.{Raw}
 use Rattle.answer.specs.Table.{widthBy}
 use Rattle.answer.specs.declared.answer.Answer.{Answer}
@@ -26,7 +25,7 @@ refusal r =
     record {
       status = 6;
       flags = r .flags;
-      steps = divide (widthBy (r .mode)) (isSet 1 (r .mode)) (isSet 2 (r .mode)) (r .x) (r .y) (flagsOf (r .flags)) .steps;
+      steps = refusedSteps (widthBy (r .mode)) (isSet 1 (r .mode)) (r .x) (r .y);
       r = 0;
       s = 0;
     }

@@ -9,7 +9,8 @@ use Rattle.divide.specs.Cord as Cord
 use Rattle.divide.specs.Cord.{Results, CordAnswer, cord}
 use Rattle.divide.specs.Idiv.{PostAnswer, preIdiv, postIdiv}
 use Rattle.divide.specs.Flags.{compareFlags}
-use Rattle.divide.specs.Divide.{refused, dividendOf, divisorOf, preSteps, divide, finished}
+use Rattle.divide.specs.Divide.{refused, dividendOf, divisorOf, preSteps, divide}
+use Rattle.divide.specs.Finish.{finished}
 use Rattle.divide.specs.declared.div.Refusal.the-variants.{FirstCompare}
 use Rattle.divide.proofs.DivLaws.{few-steps, pre-divisor, pre-flag, pre-few, pre-most, cord-of-pre, signed-refused, signed-finished}
 

@@ -6,14 +6,15 @@ use native.Mathlib.Nat.{mod-lt}
 use native.Mathlib.Omega.{arith}
 use lib.Dec.{ltb, eqb}
 use lib.IntN.{ℤ, pos, negsuc, natAbs}
-use borrow.Author.Tests.{ltb-true, lt-ltb, eqb-false, not-true}
-use Rattle.flags.specs.Numbers.{top, topSet, valued, magnitude, wrapped}
+use lib.Pow.{pow-pos}
+use borrow.Author.Tests.{ltb-true, lt-ltb, lt-leb, eqb-false, ne-eqb, not-true}
+use Rattle.flags.specs.Numbers.{top, topSet, signed, valued, magnitude, wrapped}
 use Rattle.flags.specs.declared.word.Flags.{Flags}
 use Rattle.flags.proofs.SignLaws.{magnitude-plain, plain-lt, signed-wrapped, wrapped-sign}
 use Rattle.divide.specs.Divide.{accepted, accepts, quotientOf, remainderOf, quotientReturned, divide}
 use Rattle.divide.specs.Cord.{Results}
 use Rattle.divide.specs.Manual.{Division, inRange, isRefused}
-use Rattle.divide.proofs.Manual.{division-holds, range-signed, range-unsigned, manual-accepts}
+use Rattle.divide.proofs.Manual.{quotient-determined, division-holds, range-signed, range-unsigned, manual-accepts}
 
 -- a divide is refused exactly if the divisor is 0 or the quotient is out of the manual's range, signed or not; REP changes nothing of that
 pub manual-refuses : (n : ℕ) (s rep : Bool) (d b : ℕ) (f : Flags) → isRefused (divide n s rep d b f .outcome) ≡ eqb b 0 || not (inRange n s (quotientOf n s d b))
@@ -27,6 +28,21 @@ manual-refuses n s rep d b f = by (accepts n s d b) refl ∙ ap not (manual-acce
     either : (x y : Bool) → not (not x && y) ≡ x || not y
     either true y = refl
     either false y = refl
+
+-- 0 is 0, signed or not
+nothing : (n : ℕ) (s : Bool) → magnitude s n 0 ≡ 0
+unfolding signed
+nothing n true = rw (lt-leb (top n) 0 (pow-pos (n - 1)))
+nothing n false = refl
+
+-- the same in the manual's own words: where there is a division, the divide is refused exactly if its quotient is out of range
+pub manual-traps : (n : ℕ) (s rep : Bool) (d b : ℕ) (f : Flags) {q r : ℤ} → Division (valued s (n + n) d) (valued s n b) q r
+    → isRefused (divide n s rep d b f .outcome) ≡ not (inRange n s q)
+manual-traps n s rep d b f {q} {r} h =
+    let there : b ≡ 0 → ⊥ = λ e. omega (arith, h .smaller, ap (magnitude s n) e, nothing n s) in
+    manual-refuses n s rep d b f
+    ∙ ap (λ (z : Bool). z || not (inRange n s (quotientOf n s d b))) (ne-eqb b 0 there)
+    ∙ ap (λ (z : ℤ). not (inRange n s z)) (sym (quotient-determined (valued s (n + n) d) (valued s n b) q r h))
 
 -- without REP the quotient is returned as it is
 pub without-rep : (s : Bool) (q : ℤ) → quotientReturned s false q ≡ q

@@ -1,7 +1,7 @@
 -- What the step log tells of a signed divide.
 --
 -- The steps of an accepted signed divide tell of the quotient's magnitude, and of the signs of dividend and divisor: nothing else. So
--- whoever reads the public log learns of the shelfMagnitude and the two signs, and of the keeper, the remainder, nothing beyond its sign.
+-- whoever reads the public log learns of the shelf's magnitude and the two signs, and of the keeper, the remainder, nothing beyond its sign.
 -- Assumes nothing.
 use mathlib.Core.Path.{_≡_, ap, ap₂}
 use mathlib.Core.Bool.{Bool, true, cond}
@@ -32,6 +32,6 @@ module _ (n : ℕ) (hn : 0 < n) (d b d′ b′ : ℕ) (rep rep′ : Bool) (f f�
       same-signs : preSteps n d b ≡ preSteps n d′ b′
       same-signs = ap₂ (λ (s t : Bool). cond s 7 3 + cond t 5 6) dividends divisors
 
-  -- what it was bought for: one shelfMagnitude and the same signs take the same steps, whoever the keepers are
+  -- what it was bought for: shelves of one magnitude and the same signs take the same steps, whoever the keepers are
   pub keepers-stay-hidden : shelfMagnitude n d b ≡ shelfMagnitude n d′ b′ → divide n true rep d b f .steps ≡ divide n true rep′ d′ b′ f′ .steps
   keepers-stay-hidden e = demand-3 .1 (ap logged e)

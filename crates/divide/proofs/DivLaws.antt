@@ -23,7 +23,8 @@ use Rattle.divide.specs.Cord.{Results, CordAnswer, lastCompare, cordStep
 use Rattle.divide.specs.Idiv as Idiv
 use Rattle.divide.specs.Idiv.{preIdiv, withSign, postIdiv}
 use Rattle.divide.specs.Flags.{compareFlags}
-use Rattle.divide.specs.Divide.{Divided, accepted, refused, accepts, quotientOf, remainderOf, dividendOf, divisorOf, atFirst, refusalOf, preSteps, acceptedSteps, refusedSteps, acceptedFlags, refusedFlags, divide, finished}
+use Rattle.divide.specs.Divide.{Divided, accepted, refused, accepts, quotientOf, remainderOf, dividendOf, divisorOf, atFirst, refusalOf, preSteps, acceptedSteps, refusedSteps, acceptedFlags, refusedFlags, divide}
+use Rattle.divide.specs.Finish.{finished}
 use Rattle.divide.specs.declared.div.Refusal.{Refusal}
 use Rattle.divide.specs.declared.div.Refusal.the-variants.{FirstCompare, SignRange}
 

@@ -16,6 +16,7 @@ use Rattle.flags.proofs.Powers.{top-twice}
 use Rattle.flags.proofs.SignLaws.{plain-lt, magnitude-plain, abs-sign}
 use Rattle.divide.specs.Divide.{accepts, quotientOf, dividendOf, divisorOf, atFirst, preSteps, refusedSteps, divide}
 use Rattle.divide.specs.Cord.{cordSteps, noBorrows}
+use Rattle.divide.specs.StepLog.{shelfMagnitude, logged}
 use Rattle.divide.proofs.DivLaws.{below, pre-most, zero-or-not, rule, quotient-by}
 use Rattle.divide.proofs.CordLaws.{most-ones}
 use Rattle.divide.proofs.RoadLaws.{plain-ones}
@@ -38,7 +39,8 @@ module _ (n d b : ℕ) (rep : Bool) (f : Flags) (hn : 0 < n) (hd : d < 2 ^ (n + 
       plain-ones n (divisorOf n true b) n (dividendOf n true d) divisor-pos divisor-half
       (below (dividendOf n true d) (2 ^ n) (divisorOf n true b) divisor-pos (omega (arith, in-range, top-twice n hn)))
 
-  pub steps-logged : divide n true rep d b f .steps ≡ 25 + preSteps n d b + 8 * n + (ones (natAbs (quotientOf n true d b)) + 2 * (natAbs (quotientOf n true d b) % 2))
+  -- what the log shows of an accepted signed divide
+  pub steps-logged : divide n true rep d b f .steps ≡ 25 + preSteps n d b + 8 * n + logged (shelfMagnitude n d b)
   unfolding divide
   steps-logged = rw (agreed, quotient-is) (omega (arith, by-no-borrow))
 
@@ -63,12 +65,15 @@ module _ (n d b : ℕ) (rep : Bool) (f : Flags) (hn : 0 < n) (hd : d < 2 ^ (n + 
       rw e (omega (arith, pre-most n d b, by-no-borrow n d b rep f hn hd hb e, few-ones n d b rep f hn hd hb e))
   most-signed false e = rw e (most-refused (atFirst n true d b) refl)
 
+  -- signed or not, accepted or refused
   pub most-steps : (s : Bool) → divide n s rep d b f .steps ≤ 39 + 9 * n
   most-steps true = most-signed (accepts n true d b) refl
   most-steps false = most-unsigned (accepts n false d b) refl
 
+-- at 8 bits
 pub most-steps-8 : (d b : ℕ) (rep : Bool) (f : Flags) → d < 2 ^ 16 → b < 2 ^ 8 → (s : Bool) → divide 8 s rep d b f .steps ≤ 111
 most-steps-8 d b rep f hd hb = most-steps 8 d b rep f (omega arith) hd hb
 
+-- and at 16
 pub most-steps-16 : (d b : ℕ) (rep : Bool) (f : Flags) → d < 2 ^ 32 → b < 2 ^ 16 → (s : Bool) → divide 16 s rep d b f .steps ≤ 183
 most-steps-16 d b rep f hd hb = most-steps 16 d b rep f (omega arith) hd hb

@@ -10,7 +10,7 @@ pub record Results : Type 0 where
   pub quotient : ℕ
   pub remainder : ℕ
 
--- whether it does
+-- accepted, with its results, or refused
 pub data CordOutcome : Type 0 where
   accepted : Results → CordOutcome
   refused : CordOutcome
@@ -67,7 +67,7 @@ unfoldable pub lastCompare : ℕ → ℕ → ℕ → ℕ → ℕ
 lastCompare n b zero p = p
 lastCompare n b (suc k) p = lastBy (road n b p) (lastCompare n b k (p / 2)) (shifted b p)
 
--- 6 + 8n, one for each one by no borrow, and 2 where the quotient is odd
+-- 7 + 8n, one for each one by no borrow, and 1 more where the quotient is odd, else 1 less; that is
 abbrev pub cordSteps : ℕ → ℕ → ℕ → ℕ
 cordSteps n b d = 6 + 8 * n + noBorrows n b n d + 2 * (d / b % 2)
 

@@ -1,4 +1,4 @@
--- Divide: 2n bits by n bits. Results, remainder and refusals are the manual's; REP, flags and steps are the chart's.
+-- Divide: 2n bits by n bits. Quotient, remainder and refusals are the manual's; REP, flags and steps are the chart's.
 -- Assumes nothing.
 use mathlib.Core.Bool.{Bool, true, false, not, cond, _&&_}
 use Prim.Native.Nat.{ℕ, _+_, _*_, _/_, _%_, _^_}
@@ -10,7 +10,6 @@ use Rattle.flags.specs.Word.{setCO}
 use Rattle.flags.specs.declared.word.Flags.{Flags}
 use Rattle.divide.specs.Cord.{Results, lastCompare, cordSteps}
 use Rattle.divide.specs.Flags.{compareFlags}
-use Rattle.divide.specs.Idiv as Idiv
 use Rattle.divide.specs.declared.div.Refusal.{Refusal}
 use Rattle.divide.specs.declared.div.Refusal.the-variants.{FirstCompare, SignRange}
 
@@ -70,7 +69,7 @@ refusedSteps n false d b = 9
 refusedSteps n true d b =
     cond (atFirst n true d b) (10 + preSteps n d b) (11 + preSteps n d b + cordSteps n (divisorOf n true b) (dividendOf n true d))
 
--- those of the last compare; C says that the quotient lies below 2 ^ (n - 1)
+-- the flags that CORD leaves of an accepted divide: those of the last compare; C says that the quotient lies below 2 ^ (n - 1)
 abbrev pub cordFlags : ℕ → ℕ → ℕ → Flags → Flags
 cordFlags n b d f = compareFlags n (lastCompare n b n d) b (ltb (d / b) (top n)) f
 
@@ -79,7 +78,7 @@ abbrev pub acceptedFlags : ℕ → Bool → ℕ → ℕ → Flags → Flags
 acceptedFlags n false d b f = cordFlags n b d f
 acceptedFlags n true d b f = setCO false false (cordFlags n (divisorOf n true b) (dividendOf n true d) f)
 
--- after a refusal, those handed in
+-- after a refusal, those handed in, whatever was divided
 abbrev pub refusedFlags : ℕ → Bool → ℕ → ℕ → Flags → Flags
 refusedFlags n s d b f = f
 
@@ -98,8 +97,3 @@ divide n s rep d b f =
     cond (accepts n s d b)
     (record { outcome = accepted (resultsOf n s rep d b); flags = acceptedFlags n s d b f; steps = acceptedSteps n s d b })
     (record { outcome = refused (refusalOf n s d b); flags = refusedFlags n s d b f; steps = refusedSteps n s d b })
-
--- what POSTIDIV's answer makes of a signed divide whose last compare left the flags g
-abbrev pub finished : Idiv.PostAnswer → Flags → Flags → Divided
-finished (Idiv.accepted q r t) g f = record { outcome = accepted (record { quotient = q; remainder = r }); flags = setCO false false g; steps = t }
-finished (Idiv.refused t) g f = record { outcome = refused SignRange; flags = f; steps = t }

@@ -29,5 +29,5 @@ pub data PostAnswer : Type 0 where
 
 -- refused after 2 steps where the quotient is not below the top bit; else the two signs are given: 10 steps
 unfoldable pub postIdiv : ℕ → Results → ℕ → Bool → Bool → ℕ → PostAnswer
-postIdiv n r upper carry negate steps =
-    cond carry (accepted (withSign n negate (r .quotient)) (withSign n (topSet n upper) (r .remainder)) (steps + 10)) (refused (steps + 2))
+postIdiv n r upper carry negFlag steps =
+    cond carry (accepted (withSign n negFlag (r .quotient)) (withSign n (topSet n upper) (r .remainder)) (steps + 10)) (refused (steps + 2))

@@ -2,7 +2,8 @@
 ghost use mathlib.Core.Path.{_≡_};
 ghost use Rattle.flags.specs.Parity.{ParityTable};
 ghost use Rattle.divide.specs.Flags.{compareFlags};
-ghost use Rattle.divide.specs.Divide.{divide, finished};
+ghost use Rattle.divide.specs.Divide.{divide};
+ghost use Rattle.divide.specs.Finish.{finished};
 ghost use Rattle.divide.specs.Views.{post8Answer, post16Answer, divided8, divided16};
 ghost use mathlib.Core.Bool.{true, false};
 use crate::cord;

@@ -13,13 +13,8 @@ use lib.Seq.{take-at, drop-at, drop-drop, getD-take, length-take-le}
 use Rattle.text.specs.Lines.{lineAt, takes, linesOf, bytesIn}
 use Rattle.text.proofs.NextLine.{first-takes, no-line, first-line}
 use Rattle.line.specs.Run.{Done, done, runBy}
+use Rattle.line.specs.Placed.{placed}
 use Rattle.line.proofs.Turns.{by-run}
-
--- what a run leaves that answers a text's first m lines. Each has a line feed after it, or ends with the text
-abbrev pub placed : (List ℕ → List ℕ) → ℕ → Bool → List ℕ → List ℕ → Done
-placed answer m atEnd text out =
-    let lines = take m (linesOf atEnd text) in
-    done (flatMap answer lines ++ drop (m * 19) out) m (min (bytesIn lines) (length text))
 
 pub places : (f : List ℕ → List ℕ) (room : ℕ) (e : Bool) (t o : List ℕ) → runBy f room e t o ≡ placed f (min room (length (linesOf e t))) e t o
 unfolding flatMap

@@ -1,4 +1,5 @@
 pub mod One
 pub mod Table
 pub mod Run
+pub mod Placed
 pub mod Whole

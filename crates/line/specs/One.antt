@@ -1,4 +1,4 @@
--- The answer to one line: the whole table of statuses, in its order 7, 1, 2, 3, 4, 5, 6. Assumes nothing.
+-- What a line is answered, and the bytes that say it. Assumes nothing.
 use mathlib.Core.Bool.{cond}
 use mathlib.Core.List.{List, _++_}
 use Prim.Native.Nat.{ℕ}
@@ -27,7 +27,7 @@ answerBy Digit = zeros 2
 unfoldable pub answerOf : List ℕ → Answer
 answerOf line = answerBy (readOf line)
 
--- the 19 bytes of a line's answer
+-- the 19 bytes of an answer, in capitals
 abbrev pub textBy : Answer → List ℕ
 textBy a = written capitalOf (a .status) (a .flags) (a .steps) (a .r) (a .s)
 

@@ -20,7 +20,7 @@ productValue n s rep x y = cond rep (negℤ (valued s n x *ℤ valued s n y)) (v
 abbrev pub productOf : ℕ → Bool → Bool → ℕ → ℕ → ℕ
 productOf n s rep x y = wrapped (n + n) (productValue n s rep x y)
 
--- that sum of the halves of 2n bits
+-- of 2n bits, the upper half as a signed word of 16 bits plus the lower half's top bit
 abbrev pub halvesSum : ℕ → ℕ → ResultCoa
 halvesSum n bits = signSum n (bits / 2 ^ n) (bits % 2 ^ n)
 
@@ -29,7 +29,7 @@ abbrev pub carries : ℕ → Bool → Bool → ℕ → ℕ → Bool
 carries n false rep x y = not (eqb (productOf n false rep x y / 2 ^ n) 0)
 carries n true rep x y = not (fitsSigned n (productValue n true rep x y))
 
--- unsigned, the other four stay; signed, A, S, Z and P come from that sum of the product's halves
+-- unsigned, the other four stay; signed, A, S, Z and P come from that sum, of the product
 abbrev pub mulFlags : ℕ → Bool → Bool → ℕ → ℕ → Flags → Flags
 mulFlags n false rep x y f = setCO (carries n false rep x y) (carries n false rep x y) f
 mulFlags n true rep x y f =

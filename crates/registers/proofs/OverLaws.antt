@@ -8,10 +8,10 @@ use Rattle.flags.specs.declared.word.Flags.{Flags}
 use Rattle.registers.specs.Over.{storedOf, refusedOf, settledOf, over}
 use Rattle.bcd.specs.declared.adjust.Adjusted.{Adjusted}
 use Rattle.registers.specs.declared.Registers.{Registers}
-use Rattle.registers.specs.declared.Outcome.{Outcome}
+use Rattle.registers.specs.declared.Settled.{Settled}
 
 -- what a function by value settles is the adjust over the record
-pub over-is : (F : ℕ → Flags → Adjusted) (regs : Registers) {f : Flags} {made : Adjusted} {o : Outcome}
+pub over-is : (F : ℕ → Flags → Adjusted) (regs : Registers) {f : Flags} {made : Adjusted} {o : Settled}
     → f ≡ flagsOf (regs .flags) → made ≡ F (regs .ax) f → o ≡ settledOf regs made → o ≡ over F regs
 unfolding over
 over-is F regs ef em eo = eo ∙ ap (settledOf regs) (em ∙ ap (F (regs .ax)) ef)
@@ -22,6 +22,6 @@ module _ (regs : Registers) (made : Adjusted) {good : Bool} (e : good ≡ isFlag
   unfolding settledOf
   refused t = rw (sym e ∙ not-true good t)
 
-  pub stored : not good ≡ false → {o : Outcome} → o ≡ storedOf regs made → o ≡ settledOf regs made
+  pub stored : not good ≡ false → {o : Settled} → o ≡ storedOf regs made → o ≡ settledOf regs made
   unfolding settledOf
   stored t eo = rw (sym e ∙ not-false good t) eo

@@ -42,14 +42,14 @@ use denote.Triple.Table.{entered, cited}
 use denote.Triple.Walked.{says, Stays, stay-ref, stay-none, walkOf, goes-none, goes-ref, Walks, ends-at, walked, walk-meets}
 use Rattle.registers.specs.Over.{told}
 use Rattle.registers.specs.declared.Registers.{Registers}
-use Rattle.registers.specs.declared.Outcome.{Outcome}
+use Rattle.registers.specs.declared.Settled.{Settled}
 use Rattle.registers.proofs.Registers as T
 use Rattle.registers.proofs.Registers.Laws as T′
-use Rattle.registers.proofs.Outcome as O
-use Rattle.registers.proofs.Outcome.Laws as O′
+use Rattle.registers.proofs.Settled as O
+use Rattle.registers.proofs.Settled.Laws as O′
 use Rattle.registers.proofs.Told as S
 use Rattle.registers.proofs.Told.Laws as S′
-use Rattle.registers.proofs.aad_outcome.{signature as callee-signature, ended as callee-ended}
+use Rattle.registers.proofs.aad_settled.{signature as callee-signature, ended as callee-ended}
 use Rattle.registers.proofs.aad.{signature, ended}
 
 abbrev pub thin-by : Name → Fn
@@ -69,7 +69,7 @@ abbrev stayed : Stays (ended .signature .params) (ended .kept)
 stayed = (stay-ref (0 ∷ []) tt (plain (λ _. T.the-row)), (stay-none (λ _. u8) yes, tt))
 
 -- the contracts, of the callee and of the thin function, at what the callee comes to
-module _ {M : Type 1} (𝓤 : URA M) (H : Heap 𝓤) (A : Atoms 𝓤) (F : Registers → ℕ → Outcome) where
+module _ {M : Type 1} (𝓤 : URA M) (H : Heap 𝓤) (A : Atoms 𝓤) (F : Registers → ℕ → Settled) where
   abbrev callee-clauses : Clauses 𝓤 callee-ended
   callee-clauses κs a = record { ghost = Unit {0}; requires = λ _. emp 𝓤; ensures = λ _ r _. fact 𝓤 (r ≡ F (a .0) (a .1 .0)) }
 
@@ -82,7 +82,7 @@ module _ {M : Type 1} (𝓤 : URA M) (H : Heap 𝓤) (A : Atoms 𝓤) (F : Regis
   abbrev pub ThinBy : Contract 𝓤
   ThinBy = tripleOf 𝓤 H A signature (closing 𝓤 H A ended clauses)
 
-module _ {M : Type 1} (𝓤 : URA M) (H : Heap 𝓤) (A : Atoms 𝓤) (W : Given 𝓤 H A) (F : Registers → ℕ → Outcome) (κ : Lft) (q : Share) (b o : ℕ) (γ : GName) (h : Registers) (n : ℕ) where
+module _ {M : Type 1} (𝓤 : URA M) (H : Heap 𝓤) (A : Atoms 𝓤) (W : Given 𝓤 H A) (F : Registers → ℕ → Settled) (κ : Lft) (q : Share) (b o : ℕ) (γ : GName) (h : Registers) (n : ℕ) where
   abbrev x : RefT Registers × (ℕ × Unit {0})
   x = (record { ptr = (b, o); name = γ; now = h }, (n, tt))
 
@@ -101,13 +101,13 @@ module _ {M : Type 1} (𝓤 : URA M) (H : Heap 𝓤) (A : Atoms 𝓤) (W : Given
       qed W (‵ ftrue ∷ []) ∵ owned ! u8 (Is u8) (uint-makes 𝓤 H A W w8) n _ (refl, fits) $ fjoin ! $ owned ! T.the-row (Is T.the-row) ((LL.makes T.the-type T′.the-plain) 𝓤 H A) h _ was $ fjoin ! $ nothing ! $ join ! $ nothing ! $ move ! (1 ∷ 0 ∷ []) $ frame ! $ done !
 
   -- of the callee's `ensured`, the clause alone
-  said : (r : Outcome) → ent 𝓤 (ensured 𝓤 H A callee-ended (callee-clauses 𝓤 H A F) tt (h, (n, tt)) tt r) (fact 𝓤 (r ≡ F h n))
+  said : (r : Settled) → ent 𝓤 (ensured 𝓤 H A callee-ended (callee-clauses 𝓤 H A F) tt (h, (n, tt)) tt r) (fact 𝓤 (r ≡ F h n))
   said r = exE 𝓤 _ (λ ws. snd∗ 𝓤 (sem 𝓤 H A (lasts callee-ended tt (h, (n, tt)) ws)) (fact 𝓤 (r ≡ F h n)))
 
-  exits : (r : Outcome) → n < 2 ^ 8 → r ≡ F h n → Is S.the-row (told r) (S′.lowered (told r) ∷ []) → ent 𝓤 (sep 𝓤 (A .obs γ (T.the-row .coded .code (r .regs))) (sep 𝓤 (A .bor κ (Body (mem T.the-row) b o γ)) (A .lft κ q))) (Post (S′.lowered (told r)))
+  exits : (r : Settled) → n < 2 ^ 8 → r ≡ F h n → Is S.the-row (told r) (S′.lowered (told r) ∷ []) → ent 𝓤 (sep 𝓤 (A .obs γ (T.the-row .coded .code (r .regs))) (sep 𝓤 (A .bor κ (Body (mem T.the-row) b o γ)) (A .lft κ q))) (Post (S′.lowered (told r)))
   exits r fits e is =
       qed W (‵ (fobs γ (T.the-row .coded .code (r .regs))) ∷ ‵ (fbor κ (Body (mem T.the-row) b o γ)) ∷ ‵ (flft κ q) ∷ []) ∵
-      suffices ! _ (ends-at 𝓤 H A ended stayed (clauses 𝓤 H A F) W (((κ, tt), (q, tt), tt, x, at), tt) (S′.lowered (told r)) (told r) (r .regs, (tt, tt)) (tt, (tt, tt))) $ says ! (ap told e, ap (λ (p : Outcome). p .regs) e) $ nothing ! $ move ! (3 ∷ 0 ∷ []) $ join ! $
+      suffices ! _ (ends-at 𝓤 H A ended stayed (clauses 𝓤 H A F) W (((κ, tt), (q, tt), tt, x, at), tt) (S′.lowered (told r)) (told r) (r .regs, (tt, tt)) (tt, (tt, tt))) $ says ! (ap told e, ap (λ (p : Settled). p .regs) e) $ nothing ! $ move ! (3 ∷ 0 ∷ []) $ join ! $
       frame ! $ feqI ! (List Val) (vptr b o ∷ []) (vptr b o ∷ []) refl $ fjoin3 ! $ nothing ! $ owned ! u8 (Is u8) (uint-makes 𝓤 H A W w8) n _ (refl, fits) $ fjoin ! $ move ! (1 ∷ 0 ∷ []) $ fjoin ! $
       owned ! S.the-row (Is S.the-row) ((LL.makes S.the-type S′.the-plain) 𝓤 H A) (told r) _ is $ move ! (1 ∷ 0 ∷ []) $ done !
 
@@ -123,7 +123,7 @@ module _ {M : Type 1} (𝓤 : URA M) (H : Heap 𝓤) (A : Atoms 𝓤) (W : Given
         assigns ! (of-opd ! (load ! (from ! (hop ! (look ! 12 refl) (stop !))) (look-raw ! 0 refl))) (from ! (stop !)) (init ! 6 refl (LL.lawful T.the-type T′.the-laws 𝓤 H A W .typed h _ was .0)) $
         nothing ! $ use1 W (raw (Callee 𝓤 H A F .pre to)) (asks fits was) $
         calls-at ! fm (Callee 𝓤 H A F) known to (and-then ! (load ! (from ! (stop !)) (look ! 7 refl)) (and-then ! (load ! (from ! (stop !)) (look ! 11 refl)) (no-more !))) (λ u.
-        use1 W (later (some (λ (r : Outcome). (‵ ftrue ⊛ ‵ (O.the-row .own r (u ∷ []))) ⊛ raw (ensured 𝓤 H A callee-ended (callee-clauses 𝓤 H A F) tt (h, (n, tt)) tt r)))) (id⊢ 𝓤 _) $ await ! tt $ pick ! (λ r.
+        use1 W (later (some (λ (r : Settled). (‵ ftrue ⊛ ‵ (O.the-row .own r (u ∷ []))) ⊛ raw (ensured 𝓤 H A callee-ended (callee-clauses 𝓤 H A F) tt (h, (n, tt)) tt r)))) (id⊢ 𝓤 _) $ await ! tt $ pick ! (λ r.
         split ! $ move ! (1 ∷ []) $ use1 W (raw (fact 𝓤 (r ≡ F h n))) (said r) $ heard ! (r ≡ F h n) (λ e. split ! $ drop ! $
         peeks ! O.the-row (Is O.the-row) (shows 𝓤 H A O.the-row) r (u ∷ []) (λ is. drop ! $
         land ! (from ! (stop !)) (init ! 8 refl (LL.lawful O.the-type O′.the-laws 𝓤 H A W .typed r _ is .0)) $ rewrite ! 8 (λ (w : Val). ‵ (fat fullShare O′.mir l₃ 0 w)) (ap only (LL.tells O.the-type O′.the-laws r _ is)) refl $
@@ -136,7 +136,7 @@ module _ {M : Type 1} (𝓤 : URA M) (H : Heap 𝓤) (A : Atoms 𝓤) (W : Given
         move ! (13 ∷ 14 ∷ []) $ free1 ! $ move ! (11 ∷ 12 ∷ []) $ free1 ! $ move ! (9 ∷ 10 ∷ []) $ free1 ! $ move ! (7 ∷ 8 ∷ []) $ free1 ! $ move ! (5 ∷ 6 ∷ []) $ free1 ! $ free0 ! $ keep ! (0 ∷ 1 ∷ 2 ∷ []) $
         by ! (exits r fits e (LL.owes S.the-type S′.the-laws (told r) (LL.owed O.the-type O′.the-laws r _ is .0, (LL.owed O.the-type O′.the-laws r _ is .1 .0, tt)))))))))))))))
 
-module _ {M : Type 1} (𝓤 : URA M) (H : Heap 𝓤) (A : Atoms 𝓤) (W : Given 𝓤 H A) (F : Registers → ℕ → Outcome) (𝓣 : Tables 𝓤 H) (k : Name) (known : Triple 𝓤 (𝓣 .C k) (Callee 𝓤 H A F)) where
+module _ {M : Type 1} (𝓤 : URA M) (H : Heap 𝓤) (A : Atoms 𝓤) (W : Given 𝓤 H A) (F : Registers → ℕ → Settled) (𝓣 : Tables 𝓤 H) (k : Name) (known : Triple 𝓤 (𝓣 .C k) (Callee 𝓤 H A F)) where
   thin-by-walks : Walks 𝓤 H A ended stayed (WpFn 𝓤 H (𝓣 .C) (𝓣 .Λ) (thin-by k)) (clauses 𝓤 H A F)
   thin-by-walks = walked 𝓤 H A ended stayed (clauses 𝓤 H A F) (WpFn 𝓤 H (𝓣 .C) (𝓣 .Λ) (thin-by k)) (λ κs. (ptr-vals, (uint-vals w8, tt))) (λ κs. (mut-tells (named 0) (κs .0) T.the-row, (uint-tells w8, tt)))
       (λ κs qs bounds a _ are. via 𝓤 _ (fst∗ 𝓤 _ (emp 𝓤)) (walk 𝓤 H A W F (κs .0) (qs .0) (a .0 .ptr .0) (a .0 .ptr .1) (a .0 .name) (a .0 .now) (a .1 .0) (𝓣 .C) (𝓣 .Λ) (fmOf 𝓤 H (W .laws) 𝓣) k known (are .1 .0 .1)))
@@ -145,7 +145,7 @@ module _ {M : Type 1} (𝓤 : URA M) (H : Heap 𝓤) (A : Atoms 𝓤) (W : Given
   thin-by-meets = walk-meets 𝓤 H A ended stayed W (goes-ref 𝓤 H A W 1 0 tt (plain (λ _. T.the-row)), (goes-none 𝓤 H A W 1 (λ _. u8) yes (λ κs x f. refl), tt)) (clauses 𝓤 H A F) (WpFn 𝓤 H (𝓣 .C) (𝓣 .Λ) (thin-by k)) (WpFn-mono 𝓤 H (W .laws) 𝓣 (thin-by k)) thin-by-walks
 
 -- f's theorem, from the theorem of the callee, whose name is k and whose routine is r
-pub thin-by-spec : {M : Type 1} (𝓤 : URA M) (H : Heap 𝓤) (𝓜 : Model 𝓤 H) (𝓖 : GhostRules 𝓤 H) (𝓡 : Running 𝓤 H 𝓜) (F : Registers → ℕ → Outcome) (f : Name) (env : Env) (k : Name)
+pub thin-by-spec : {M : Type 1} (𝓤 : URA M) (H : Heap 𝓤) (𝓜 : Model 𝓤 H) (𝓖 : GhostRules 𝓤 H) (𝓡 : Running 𝓤 H 𝓜) (F : Registers → ℕ → Settled) (f : Name) (env : Env) (k : Name)
     → Closed 𝓤 H (tables 𝓤 H 𝓜 𝓡 env .C) (tables 𝓤 H 𝓜 𝓡 env .Λ) f (thin-by k) → (r : Routine) → env k ≡ r → Triple 𝓤 (𝓡 .run r) (Callee 𝓤 H (𝓖 .A) F) → Triple 𝓤 (𝓡 .run (env f)) (ThinBy 𝓤 H (𝓖 .A) F)
 unfolding tablesOf
 thin-by-spec 𝓤 H 𝓜 𝓖 𝓡 F f env k unfolded r calls met =

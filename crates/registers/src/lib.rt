@@ -18,7 +18,7 @@ pub struct Registers {
     pub flags: u16,
 }
 
-pub struct Outcome {
+pub struct Settled {
     pub status: u8,
     pub steps: u16,
     pub regs: Registers,
@@ -30,18 +30,18 @@ pub struct Told {
 }
 
 // The one place that refuses, and that stores what an operation made of the record's values.
-fn settled(regs: Registers, made: Adjusted) -> Outcome
+fn settle(regs: Registers, made: Adjusted) -> Settled
     ensures { λ o. ⌜ o ≡ settledOf regs made ⌝ }
 {
     if !Flags::is_flags(regs.flags) {
-        return Outcome {
+        return Settled {
             status: 5,
             steps: 0,
             regs,
         };
     }
     let flags = made.flags;
-    Outcome {
+    Settled {
         status: 0,
         steps: made.steps,
         regs: Registers {
@@ -51,11 +51,11 @@ fn settled(regs: Registers, made: Adjusted) -> Outcome
     }
 }
 
-fn aaa_outcome(regs: Registers) -> Outcome
+fn aaa_settled(regs: Registers) -> Settled
     ensures { λ o. ⌜ o ≡ over aaaOf regs ⌝ }
 {
     let table = parity::parity_table();
-    settled(
+    settle(
         regs,
         ascii::aaa(regs.ax, Flags::from_word(regs.flags), &table),
     )
@@ -64,7 +64,7 @@ fn aaa_outcome(regs: Registers) -> Outcome
 pub fn aaa(r: &mut Registers) -> Told
     ensures { λ s. ⌜ (s ≡ told (over aaaOf (now (r .entry)))) × (now (r .exit) ≡ over aaaOf (now (r .entry)) .regs) ⌝ }
 {
-    let o = aaa_outcome(*r);
+    let o = aaa_settled(*r);
     *r = o.regs;
     Told {
         status: o.status,
@@ -72,11 +72,11 @@ pub fn aaa(r: &mut Registers) -> Told
     }
 }
 
-fn aas_outcome(regs: Registers) -> Outcome
+fn aas_settled(regs: Registers) -> Settled
     ensures { λ o. ⌜ o ≡ over aasOf regs ⌝ }
 {
     let table = parity::parity_table();
-    settled(
+    settle(
         regs,
         ascii::aas(regs.ax, Flags::from_word(regs.flags), &table),
     )
@@ -85,7 +85,7 @@ fn aas_outcome(regs: Registers) -> Outcome
 pub fn aas(r: &mut Registers) -> Told
     ensures { λ s. ⌜ (s ≡ told (over aasOf (now (r .entry)))) × (now (r .exit) ≡ over aasOf (now (r .entry)) .regs) ⌝ }
 {
-    let o = aas_outcome(*r);
+    let o = aas_settled(*r);
     *r = o.regs;
     Told {
         status: o.status,
@@ -93,11 +93,11 @@ pub fn aas(r: &mut Registers) -> Told
     }
 }
 
-fn daa_outcome(regs: Registers) -> Outcome
+fn daa_settled(regs: Registers) -> Settled
     ensures { λ o. ⌜ o ≡ over daaOf regs ⌝ }
 {
     let table = parity::parity_table();
-    settled(
+    settle(
         regs,
         decimal::daa(regs.ax, Flags::from_word(regs.flags), &table),
     )
@@ -106,7 +106,7 @@ fn daa_outcome(regs: Registers) -> Outcome
 pub fn daa(r: &mut Registers) -> Told
     ensures { λ s. ⌜ (s ≡ told (over daaOf (now (r .entry)))) × (now (r .exit) ≡ over daaOf (now (r .entry)) .regs) ⌝ }
 {
-    let o = daa_outcome(*r);
+    let o = daa_settled(*r);
     *r = o.regs;
     Told {
         status: o.status,
@@ -114,11 +114,11 @@ pub fn daa(r: &mut Registers) -> Told
     }
 }
 
-fn das_outcome(regs: Registers) -> Outcome
+fn das_settled(regs: Registers) -> Settled
     ensures { λ o. ⌜ o ≡ over dasOf regs ⌝ }
 {
     let table = parity::parity_table();
-    settled(
+    settle(
         regs,
         decimal::das(regs.ax, Flags::from_word(regs.flags), &table),
     )
@@ -127,7 +127,7 @@ fn das_outcome(regs: Registers) -> Outcome
 pub fn das(r: &mut Registers) -> Told
     ensures { λ s. ⌜ (s ≡ told (over dasOf (now (r .entry)))) × (now (r .exit) ≡ over dasOf (now (r .entry)) .regs) ⌝ }
 {
-    let o = das_outcome(*r);
+    let o = das_settled(*r);
     *r = o.regs;
     Told {
         status: o.status,
@@ -135,11 +135,11 @@ pub fn das(r: &mut Registers) -> Told
     }
 }
 
-fn aad_outcome(regs: Registers, imm8: u8) -> Outcome
+fn aad_settled(regs: Registers, imm8: u8) -> Settled
     ensures { λ o. ⌜ o ≡ overBy aadOf regs imm8 ⌝ }
 {
     let table = parity::parity_table();
-    settled(
+    settle(
         regs,
         ascii::aad(regs.ax, imm8, Flags::from_word(regs.flags), &table),
     )
@@ -148,7 +148,7 @@ fn aad_outcome(regs: Registers, imm8: u8) -> Outcome
 pub fn aad(r: &mut Registers, imm8: u8) -> Told
     ensures { λ s. ⌜ (s ≡ told (overBy aadOf (now (r .entry)) imm8)) × (now (r .exit) ≡ overBy aadOf (now (r .entry)) imm8 .regs) ⌝ }
 {
-    let o = aad_outcome(*r, imm8);
+    let o = aad_settled(*r, imm8);
     *r = o.regs;
     Told {
         status: o.status,

@@ -2,7 +2,8 @@
 use mathlib.Core.Path.{_≡_, sym, ap, _∙_}
 use borrow.Author.Needs.{needs}
 use Rattle.flags.specs.declared.word.Flags.{Flags}
-use Rattle.divide.specs.Divide.{accepted, finished}
+use Rattle.divide.specs.Divide.{accepted}
+use Rattle.divide.specs.Finish.{finished}
 use Rattle.divide.specs.Views.{post16Answer}
 use Rattle.divide.specs.declared.idiv.PostIdiv16.{PostIdiv16}
 use Rattle.divide.proofs.div.finish16.Statement.{statement}

@@ -1,0 +1,12 @@
+-- How a signed divide ends, from POSTIDIV's answer. Assumes nothing.
+use mathlib.Core.Bool.{false}
+use Rattle.flags.specs.Word.{setCO}
+use Rattle.flags.specs.declared.word.Flags.{Flags}
+use Rattle.divide.specs.Idiv as Idiv
+use Rattle.divide.specs.Divide.{Divided, accepted, refused}
+use Rattle.divide.specs.declared.div.Refusal.the-variants.{SignRange}
+
+-- g are the flags that the last compare left, f those handed in
+abbrev pub finished : Idiv.PostAnswer → Flags → Flags → Divided
+finished (Idiv.accepted q r t) g f = record { outcome = accepted (record { quotient = q; remainder = r }); flags = setCO false false g; steps = t }
+finished (Idiv.refused t) g f = record { outcome = refused SignRange; flags = f; steps = t }
