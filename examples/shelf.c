@@ -38,5 +38,9 @@ int main(int argc, char **argv)
         fprintf(stderr, "shelf: the request was refused with status %d\n", status);
         return 1;
     }
-    return fflush(stdout) == 0 ? 0 : 1;
+    if (fflush(stdout) != 0 || ferror(stdout)) {
+        perror("shelf: standard output");
+        return 1;
+    }
+    return 0;
 }

@@ -2,6 +2,7 @@
  * stream: answers the request lines of standard input, as they come and in constant memory.
  * A line of any length gets one answer. The exit status is 0 if everything was read and written.
  */
+#include <errno.h>
 #include <hatchyarn.h>
 #include <stdio.h>
 #include <string.h>
@@ -13,11 +14,14 @@ enum { TOO_LONG = 21 };
 int main(void)
 {
     static uint8_t text[4096], answers[200 * HATCHYARN_ANSWER_BYTES];
+    _Static_assert(sizeof text > TOO_LONG, "a line that is kept as too long leaves room to read on");
     size_t kept = 0, used, lines;
     ssize_t got;
 
     do {
-        got = read(STDIN_FILENO, text + kept, sizeof text - kept);
+        do
+            got = read(STDIN_FILENO, text + kept, sizeof text - kept);
+        while (got < 0 && errno == EINTR);
         if (got < 0) {
             perror("stream: standard input");
             return 1;

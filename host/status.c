@@ -11,7 +11,9 @@ struct iovec {
     size_t length;
 };
 
-ssize_t write(int fd, const void *bytes, size_t length);
+/* Hidden, so that it stands in for the proved code alone: what a library that is loaded with the program
+ * writes is no word of the program's. */
+__attribute__((visibility("hidden"))) ssize_t write(int fd, const void *bytes, size_t length);
 ssize_t writev(int fd, const struct iovec *parts, int count);
 _Noreturn void _exit(int status);
 

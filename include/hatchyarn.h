@@ -5,7 +5,7 @@
  * number of threads at once. Every request gets an answer: nothing has to be checked before a call.
  *
  * What a pointer leads to must be there: a function reads or writes no more than is said below, and
- * what it writes must not overlap what it reads.
+ * what it writes must not overlap what it reads. A pointer may be null where its length or room is 0.
  */
 #ifndef HATCHYARN_H
 #define HATCHYARN_H
@@ -128,9 +128,10 @@ uint8_t hatchyarn_line(const uint8_t *line, size_t length, uint8_t *out, size_t 
  *   else, length is not 0      the text is the start of a line, and at_end is false: read on behind it;
  *   else                       there is nothing left of this text.
  *
- * In the second case a buffer may be full. Its line is then longer than any request, and is answered
- * with status 1 whatever follows: 21 of its bytes are enough to keep, so that it stays too long, and
- * the rest of the buffer is free. examples/stream.c reads a text of any length in this way.
+ * In the second case a buffer may be full. If it has at least 22 bytes, its line is then longer than any
+ * request, and is answered with status 1 whatever follows: 21 of its bytes are enough to keep, so that
+ * it stays too long, and the rest of the buffer, one byte or more, is free to read on.
+ * examples/stream.c, in the sources, answers a text of any length in this way.
  */
 size_t hatchyarn_run(const uint8_t *text, size_t length, uint8_t *out, size_t room, bool at_end,
                      size_t *used);

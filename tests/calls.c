@@ -58,6 +58,8 @@ static void lines(void)
     expect(hatchyarn_line(line, 19, out, 19) == HATCHYARN_BAD_LENGTH, "a short line");
     expect(hatchyarn_line((const uint8_t *)"1100000000000007000G", 20, out, 19) == HATCHYARN_BAD_DIGIT,
            "a line with no digit");
+    expect(hatchyarn_line(NULL, 0, out, 19) == HATCHYARN_BAD_LENGTH, "an empty line at no place");
+    expect(hatchyarn_line(line, 20, NULL, 0) == HATCHYARN_NO_ROOM, "a line and room at no place");
 }
 
 static void runs(void)
@@ -80,6 +82,10 @@ static void runs(void)
            "a run over the start of a line");
     used = 99;
     expect(hatchyarn_run(text, 0, out, sizeof out, true, &used) == 0 && used == 0 && out[0] == '?', "a run over nothing");
+    used = 99;
+    expect(hatchyarn_run(NULL, 0, out, sizeof out, true, &used) == 0 && used == 0 && out[0] == '?', "a run over no place");
+    used = 99;
+    expect(hatchyarn_run(text, length, NULL, 0, true, &used) == 0 && used == 0, "a run with room at no place");
 }
 
 int main(void)

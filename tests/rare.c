@@ -1,7 +1,8 @@
 /* Loaded before the C library (LD_PRELOAD), so that what rarely happens does, as RARE says:
  *   short    a read gives no more than 7 bytes
  *   read     the second read fails
- *   close    the closing of standard output fails, as on a full disk across a network */
+ *   close    the closing of standard output fails, as on a full disk across a network
+ *   told     a library that is loaded with the program writes to standard error */
 #include <errno.h>
 #include <stdlib.h>
 #include <string.h>
@@ -12,6 +13,13 @@ static int wanted(const char *what)
 {
     const char *rare = getenv("RARE");
     return rare != NULL && strcmp(rare, what) == 0;
+}
+
+__attribute__((constructor)) static void tell(void)
+{
+    static const char words[] = "a library's words\n";
+    if (wanted("told") && write(STDERR_FILENO, words, sizeof words - 1) < 0)
+        abort();
 }
 
 ssize_t read(int fd, void *bytes, size_t length)
