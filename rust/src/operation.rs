@@ -33,6 +33,8 @@ pub enum Shift {
 }
 
 /// Decimal adjusts of AX that take no byte.
+///
+/// They set all six flags. `Daa` and `Das` count no step.
 #[derive(Clone, Copy, Debug, PartialEq, Eq, Hash)]
 pub enum Adjust {
     Aaa = 0x18,
@@ -43,7 +45,11 @@ pub enum Adjust {
 
 /// What the chip is asked to do, with its operands.
 ///
-/// Signed operands are two's complement, so -128 is `0x80`:
+/// `signed` chooses the signed instruction, IMUL or IDIV. `rep` stands for a REP prefix before the
+/// instruction, which makes the chip negate a product or a signed quotient.
+///
+/// An unsigned multiply sets C and O, a signed one and every divide that is not refused all six flags; the
+/// rest stays as handed in. Signed operands are two's complement, so -128 is `0x80`:
 ///
 /// ```
 /// use hatchyarn::{Flags, Operation};
@@ -86,9 +92,10 @@ pub enum Operation {
         signed: bool,
         rep: bool,
     },
-    /// An adjust of AX.
+    /// An adjust of AX; [`Adjust`] tells its flags.
     Adjust(Adjust, u16),
-    /// AAD of AX by a byte, which a program's text nearly always has as 10.
+    /// AAD of AX by a byte, which a program's text nearly always has as 10. It sets P, Z and S; C, A
+    /// and O stay as handed in.
     Aad {
         ax: u16,
         byte: u8,
