@@ -8,7 +8,8 @@ use Rattle.flags.specs.declared.word.Flags.{Flags}
 use Rattle.alu.specs.Result.{ResultC, ResultCo, ResultCoa}
 use Rattle.multiply.specs.Routines.{Multiplied}
 use Rattle.multiply.specs.Multiply.{multiply}
-use Rattle.divide.specs.Divide.{DivideOutcome, Divided, divide}
+use Rattle.divide.specs.Divide.{DivideOutcome, Divided, refused, divide}
+use Rattle.divide.specs.declared.div.Refusal.{Refusal}
 use Rattle.bcd.specs.declared.adjust.Adjusted.{Adjusted}
 use Rattle.request.specs.Limits.{largest, dividendMost, rightMost, adjustMost}
 use Rattle.request.specs.Judge.{Raw, judged}
@@ -24,7 +25,7 @@ use Rattle.request.specs.declared.operation.Operation.the-variants.{Alu as OfAl
 use Rattle.request.specs.declared.judge.Request.{Request}
 use Rattle.request.specs.declared.judge.Judged.{Judged}
 use Rattle.request.proofs.RequestLaws.{InRange}
-use Rattle.answer.specs.Charted.{wholeOf, plainOf, ofC, ofCo, ofCoa, aluOf, ofProduct8, ofProduct16, ofOutcome, ofDivided, ofAdjusted, adjustOf, multipliedOf, dividedOf, chartedBy, charted}
+use Rattle.answer.specs.Charted.{wholeOf, plainOf, ofC, ofCo, ofCoa, aluOf, ofProduct8, ofProduct16, refusalStatus, ofOutcome, ofDivided, ofAdjusted, adjustOf, multipliedOf, dividedOf, chartedBy, charted}
 use Rattle.answer.specs.Asked.{ofJudged, asked}
 use Rattle.answer.specs.declared.answer.Answer.{Answer}
 
@@ -95,6 +96,11 @@ module _ (mode : Mode) (x y : ℕ) (f : Flags) where
 -- the outcome that a match told, at either width
 pub by-outcome : {A : Type 0} (view : A → DivideOutcome) (f : Flags) (steps : ℕ) {o k : A} → o ≡ k → ofOutcome (view k) f steps ≡ ofOutcome (view o) f steps
 by-outcome view f steps e = ap (λ o. ofOutcome (view o) f steps) (sym e)
+
+-- the status that was told of a refusal
+pub refused-with : (why : Refusal) {k : ℕ} → k ≡ refusalStatus why → (f : Flags) (steps : ℕ) {a : Answer} → a ≡ wholeOf k f steps 0 0
+    → a ≡ ofOutcome (refused why) f steps
+refused-with why e f steps p = p ∙ ap (λ (k : ℕ). wholeOf k f steps 0 0) e
 
 pub by-adjust : (ax byte : ℕ) (f : Flags) {decimal k : Decimal} → decimal ≡ k → {m : Adjusted} → m ≡ adjustOf k ax byte f → {a : Answer} → a ≡ ofAdjusted m
     → a ≡ ofAdjusted (adjustOf decimal ax byte f)

@@ -1,5 +1,5 @@
--- Demand 1: status 6 exactly for a divide that is admitted and not accepted; it gives back the flags handed in, the chart's steps and no
--- result. Assumes nothing.
+-- Demand 1: status 6, 8 or 9 exactly for a divide that is admitted and to which its reason applies; it gives back the flags handed in, the
+-- chart's steps and no result. Assumes nothing.
 use mathlib.Core.Path.{_≡_, refl, sym, ap, subst, _∙_}
 use mathlib.Core.Bool.{Bool, true, false, not, cond, _||_, false≢true}
 use mathlib.Core.Logic.{_↔_}
@@ -7,18 +7,21 @@ use Prim.Native.Nat.{ℕ, _+_, _^_, _<_}
 use native.Mathlib.Omega.{arith}
 use lib.Bits.{bitAnd}
 use lib.Dec.{leb, eqb}
-use borrow.Author.Tests.{leb-false, ltb-false, eqb-true, le-ltb, le-leb, eq-eqb, not-true, not-false}
+use borrow.Author.Tests.{leb-false, ltb-false, eqb-true, le-ltb, le-leb, eq-eqb, not-false}
 use Rattle.flags.specs.Numbers.{isSet}
 use Rattle.flags.specs.Word.{wordOf, flagsOf, isFlags}
 use Rattle.flags.specs.declared.word.Flags.{Flags}
 use Rattle.flags.proofs.WordLaws.{is-masked}
-use Rattle.divide.specs.Divide.{accepts, refusedSteps, divide}
+use Rattle.divide.specs.Divide.{applies, refusedSteps, divide}
+use Rattle.divide.specs.declared.div.Refusal.{Refusal}
+use Rattle.divide.specs.declared.div.Refusal.the-variants.{ZeroDivisor, TooWide, SignRange}
+use Rattle.divide.proofs.Refusals.{refused-whole}
 use Rattle.request.specs.Operation.{ops, listed, widthOf, modeOf, operationOf}
 use Rattle.request.specs.Judge.{raw, inLimits, judged}
 use Rattle.request.specs.declared.operation.Operation.the-variants.{Divide}
-use Rattle.answer.specs.Charted.{bits, ofDivided, charted}
+use Rattle.answer.specs.Charted.{bits, refusalStatus, ofDivided, charted}
 use Rattle.answer.specs.Asked.{Raw, asked}
-use Rattle.answer.specs.Table.{widthBy, tooLarge}
+use Rattle.answer.specs.Table.{wrongMode, widthBy, tooLarge, refusedFor}
 use Rattle.answer.specs.Refused.{RefusedDivide, refusal}
 use Rattle.answer.specs.declared.answer.Answer.{Answer}
 use Rattle.answer.proofs.Rows.{both}
@@ -26,12 +29,18 @@ use Rattle.answer.proofs.Table.{statuses}
 
 -- ---- a refused divide is answered its refusal
 
-refused-is : (n : ℕ) (s rep : Bool) (d b : ℕ) (f : Flags) → accepts n s d b ≡ false
-    → ofDivided (divide n s rep d b f) ≡ record { status = 6; flags = wordOf f; steps = refusedSteps n s d b; r = 0; s = 0 }
-unfolding divide
-refused-is n s rep d b f e = rw e
+refused-is : (why : Refusal) (n : ℕ) (s rep : Bool) (d b : ℕ) (f : Flags) → 0 < n → applies why n s d b ≡ true
+    → ofDivided (divide n s rep d b f) ≡ record { status = refusalStatus why; flags = wordOf f; steps = refusedSteps n s d b; r = 0; s = 0 }
+refused-is why n s rep d b f hn e = ap ofDivided (refused-whole n s d b hn f rep why e)
 
-module _ (mode flags x y : ℕ) (refused : RefusedDivide (raw 0x11 mode flags x y)) where
+some-width : (mode : ℕ) → 0 < widthBy mode
+some-width mode = by (isSet 0 mode)
+  where
+    by : (k : Bool) → 0 < cond k 16 8
+    by true = omega arith
+    by false = omega arith
+
+module _ (why : Refusal) (mode flags x y : ℕ) (refused : RefusedDivide why (raw 0x11 mode flags x y)) where
   width : bits (widthOf mode) ≡ widthBy mode
   width = by (isSet 0 mode) refl
     where
@@ -51,13 +60,13 @@ module _ (mode flags x y : ℕ) (refused : RefusedDivide (raw 0x11 mode flags x 
       by true e hx hy = rw (e, le-leb x 0xFFFF_FFFF (omega arith), le-leb y 0xFFFF (omega arith)) (eq-eqb (wordOf (flagsOf flags)) flags kept)
       by false e hx hy = rw (e, le-leb x 0xFFFF (omega arith), le-leb y 0xFF (omega arith)) (eq-eqb (wordOf (flagsOf flags)) flags kept)
 
-  answered : asked (raw 0x11 mode flags x y) ≡ refusal (raw 0x11 mode flags x y)
+  answered : asked (raw 0x11 mode flags x y) ≡ refusal why (raw 0x11 mode flags x y)
   unfolding asked judged operationOf listed ops charted
   answered =
-      rw (le-ltb 0x07 mode (refused .mode), admitted, width, refused-is (widthBy mode) (isSet 1 mode) (isSet 2 mode) x y (flagsOf flags) (refused .notAccepted))
-      (λ i. record { status = 6; flags = kept i; steps = refusedSteps (widthBy mode) (isSet 1 mode) x y; r = 0; s = 0 })
+      rw (le-ltb 0x07 mode (refused .mode), admitted, width, refused-is why (widthBy mode) (isSet 1 mode) (isSet 2 mode) x y (flagsOf flags) (some-width mode) (refused .reason))
+      (λ i. record { status = refusalStatus why; flags = kept i; steps = refusedSteps (widthBy mode) (isSet 1 mode) x y; r = 0; s = 0 })
 
--- ---- and status 6 is given to nothing else
+-- ---- and those statuses are given to nothing else
 
 none-of : (a b c : Bool) → a || b || c ≡ false → (a ≡ false) × (b ≡ false) × (c ≡ false)
 none-of true b c e = absurd (false≢true (sym e))
@@ -68,29 +77,34 @@ module _ (r : Raw) where
   is-divide : r .op ≡ 0x11 → r ≡ raw 0x11 (r .mode) (r .flags) (r .x) (r .y)
   is-divide e i = record { op = e i; mode = r .mode; flags = r .flags; x = r .x; y = r .y }
 
-  is-refused : asked r .status ≡ 6 → RefusedDivide r
-  is-refused e =
+  -- its row applies, and those of 4 and 5 do not
+  row-of : (why : Refusal) → asked r .status ≡ refusalStatus why → (wrongMode (r .op) (r .mode) ≡ false) × (tooLarge r ≡ false) × (refusedFor why r ≡ true)
+  row-of ZeroDivisor e = let g = statuses r 6 .0 e in (g .1 .0, g .1 .1 .0, g .1 .1 .1)
+  row-of TooWide e = let g = statuses r 8 .0 e in (g .1 .0, g .1 .1 .0, g .1 .1 .1 .1)
+  row-of SignRange e = let g = statuses r 9 .0 e in (g .1 .0, g .1 .1 .0, g .1 .1 .1 .1 .1)
+
+  is-refused : (why : Refusal) → asked r .status ≡ refusalStatus why → RefusedDivide why r
+  is-refused why e =
       let n = widthBy (r .mode) in
-      let signed = isSet 1 (r .mode) in
-      let given = statuses r 6 .0 e in
-      let divide = both (eqb (r .op) 0x11) (not (accepts n signed (r .x) (r .y))) (given .1 .1 .1) in
+      let row = row-of why e in
+      let divide = both (eqb (r .op) 0x11) (applies why n (isSet 1 (r .mode)) (r .x) (r .y)) (row .2) in
       let op = eqb-true (r .op) 0x11 (divide .0) in
-      let modes = none-of _ _ _ (given .1 .0) in
-      let limits = none-of (leb (2 ^ (n + n)) (r .x)) (leb (2 ^ n) (r .y)) (not (eqb (bitAnd (r .flags) 0x08D5) (r .flags))) (subst (λ (q : Raw). tooLarge q ≡ false) (is-divide op) (given .1 .1 .0)) in
+      let modes = none-of _ _ _ (row .0) in
+      let limits = none-of (leb (2 ^ (n + n)) (r .x)) (leb (2 ^ n) (r .y)) (not (eqb (bitAnd (r .flags) 0x08D5) (r .flags))) (subst (λ (q : Raw). tooLarge q ≡ false) (is-divide op) (row .1)) in
       record {
         op = op;
         mode = ltb-false 0x07 (r .mode) (modes .0);
         dividend = leb-false (2 ^ (n + n)) (r .x) (limits .0);
         divisor = leb-false (2 ^ n) (r .y) (limits .1);
         flags = eqb-true (bitAnd (r .flags) 0x08D5) (r .flags) (not-false (eqb (bitAnd (r .flags) 0x08D5) (r .flags)) (limits .2));
-        notAccepted = not-true (accepts n signed (r .x) (r .y)) (divide .1);
+        reason = divide .1;
       }
 
-  is-answered : RefusedDivide r → asked r ≡ refusal r
-  is-answered d =
+  is-answered : (why : Refusal) → RefusedDivide why r → asked r ≡ refusal why r
+  is-answered why d =
       let e = is-divide (d .op) in
-      subst (λ (q : Raw). asked q ≡ refusal q) (sym e) (answered (r .mode) (r .flags) (r .x) (r .y) (subst RefusedDivide e d))
+      subst (λ (q : Raw). asked q ≡ refusal why q) (sym e) (answered why (r .mode) (r .flags) (r .x) (r .y) (subst (RefusedDivide why) e d))
 
--- status 6 exactly for a refused divide, and then the answer is its refusal
-pub demand-1 : (r : Raw) → (asked r .status ≡ 6 ↔ RefusedDivide r) × (RefusedDivide r → asked r ≡ refusal r)
-demand-1 r = ((is-refused r, λ d. ap (λ (a : Answer). a .status) (is-answered r d)), is-answered r)
+-- the status of a reason, 6, 8 or 9, exactly for a divide that is refused for it, and then the answer is its refusal
+pub demand-1 : (why : Refusal) (r : Raw) → (asked r .status ≡ refusalStatus why ↔ RefusedDivide why r) × (RefusedDivide why r → asked r ≡ refusal why r)
+demand-1 why r = ((is-refused r why, λ d. ap (λ (a : Answer). a .status) (is-answered r why d)), is-answered r why)

@@ -1,13 +1,12 @@
 -- The first row that applies, and the status that is given. Assumes nothing.
 use mathlib.Core.Path.{_≡_, refl, sym, _∙_}
-use mathlib.Core.Bool.{Bool, true, false, not, cond, _&&_, false≢true}
+use mathlib.Core.Bool.{Bool, true, false, not, cond, _&&_, _||_, or-true, false≢true}
 use mathlib.Core.List.{List, [], _∷_}
 use mathlib.Core.Logic.{_↔_}
-use Prim.Native.Nat.{ℕ, max, _≤_}
-use native.Mathlib.Omega.{arith}
+use Prim.Native.Nat.{ℕ}
 use lib.Dec.{eqb}
-use borrow.Author.Tests.{eqb-true, eqb-false, not-true}
-use Rattle.answer.specs.Table.{Given}
+use borrow.Author.Tests.{eqb-true, eqb-false, eq-eqb, not-true}
+use Rattle.answer.specs.Table.{Given, among}
 
 pub both : (a b : Bool) → a && b ≡ true → (a ≡ true) × (b ≡ true)
 both true b h = (refl, h)
@@ -50,12 +49,17 @@ first-given ((j, applies) ∷ rows) d k =
     by false true e rest n l = (λ z. absurd (eqb-false k j e (sym z)), λ z. absurd (false≢true (sym (z .0))))
     by false false e rest n l = (λ z. (refl, rest .0 z), λ z. rest .1 (z .1))
 
--- there is no other
-abbrev pub most : List (ℕ × Bool) → ℕ
-most [] = 0
-most (row ∷ rows) = max (row .0) (most rows)
+-- there is no other: it is 0 or that of a row
+abbrev pub numbers : List (ℕ × Bool) → List ℕ
+numbers [] = []
+numbers (row ∷ rows) = row .0 ∷ numbers rows
 
-pub first-most : (rows : List (ℕ × Bool)) → firstOf rows ≤ most rows
-first-most [] = omega arith
-first-most ((j, true) ∷ rows) = omega arith
-first-most ((j, false) ∷ rows) = omega (arith, first-most rows)
+pub first-among : (rows : List (ℕ × Bool)) → among (firstOf rows) (0 ∷ numbers rows) ≡ true
+first-among [] = refl
+first-among ((j, true) ∷ rows) = rw (eq-eqb j j refl) (or-true (eqb j 0))
+first-among ((j, false) ∷ rows) = by (eqb (firstOf rows) 0) (eqb (firstOf rows) j) (among (firstOf rows) (numbers rows)) (first-among rows)
+  where
+    by : (a b c : Bool) → a || c ≡ true → a || (b || c) ≡ true
+    by true b c e = refl
+    by false true c e = refl
+    by false false c e = e

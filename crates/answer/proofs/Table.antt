@@ -1,8 +1,9 @@
 -- The status of a raw request is that of the first row of the table that applies. Assumes nothing.
-use mathlib.Core.Path.{_≡_, refl, sym, _∙_}
+use mathlib.Core.Path.{_≡_, refl, sym, ap, _∙_}
 use mathlib.Core.Bool.{Bool, true, false, not, cond, _&&_, _||_, Bool·beq, false≢true}
+use mathlib.Core.List.{[], _∷_}
 use mathlib.Core.Logic.{_↔_}
-use Prim.Native.Nat.{ℕ, _+_, _^_, _≤_}
+use Prim.Native.Nat.{ℕ, _+_, _^_, _≤_, _<_}
 use native.Mathlib.Omega.{arith}
 use lib.Dec.{leb, eqb}
 use borrow.Author.Tests.{leb-true, leb-false, eqb-true, le-leb, lt-leb, not-true}
@@ -10,7 +11,9 @@ use Rattle.flags.specs.Numbers.{isSet}
 use Rattle.flags.specs.Word.{flagsOf}
 use Rattle.flags.specs.declared.word.Flags.{Flags}
 use Rattle.flags.proofs.WordLaws.{is-masked}
-use Rattle.divide.specs.Divide.{accepts, divide}
+use Rattle.divide.specs.Divide.{DivideOutcome, accepted, refused, applies, resultsOf, divide}
+use Rattle.divide.specs.declared.div.Refusal.the-variants.{ZeroDivisor, TooWide, SignRange}
+use Rattle.divide.proofs.Refusals.{by-reason}
 use Rattle.request.specs.Operation.{operationOf}
 use Rattle.request.specs.Limits.{xMost, yMost}
 use Rattle.request.specs.Judge.{inLimits, requestOf, judgedBy, judged}
@@ -26,11 +29,11 @@ use Rattle.request.specs.declared.judge.Judged.{Judged}
 use Rattle.request.specs.declared.judge.Judged.the-variants.{Admitted, Unlisted, WrongMode, TooLarge}
 use Rattle.multiply.specs.Routines.{Multiplied}
 use Rattle.multiply.specs.Multiply.{multiply}
-use Rattle.answer.specs.Charted.{bits, aluOf, multipliedBy, ofDivided, chartedBy, charted}
+use Rattle.answer.specs.Charted.{bits, aluOf, multipliedBy, ofOutcome, ofDivided, chartedBy, charted}
 use Rattle.answer.specs.Asked.{Raw, zeros, ofJudged, asked}
-use Rattle.answer.specs.Table.{Given, unlisted, wrongMode, widthBy, xBits, yBits, tooLarge, refusesDivide, rows}
+use Rattle.answer.specs.Table.{Given, unlisted, wrongMode, widthBy, xBits, yBits, tooLarge, refusedFor, rows, among}
 use Rattle.answer.proofs.Agreement.{divides, agrees, agreed}
-use Rattle.answer.proofs.Rows.{both, firstOf, first-given, first-most}
+use Rattle.answer.proofs.Rows.{both, firstOf, first-given, first-among}
 
 -- ---- the limits
 
@@ -68,24 +71,41 @@ product-status : (w : Width) (m : Multiplied) → multipliedBy w m .status ≡ 0
 product-status Byte m = refl
 product-status Word m = refl
 
-divide-status : (n : ℕ) (s rep : Bool) (d b : ℕ) (f : Flags) → ofDivided (divide n s rep d b f) .status ≡ cond (not (accepts n s d b)) 6 0
-unfolding divide
-divide-status n s rep d b f = by (accepts n s d b) refl
+-- the rows of a divide
+abbrev byReason : Bool → Bool → Bool → ℕ
+byReason zero wide range = cond zero 6 (cond wide 8 (cond range 9 0))
+
+divide-status : (n : ℕ) (s rep : Bool) (d b : ℕ) (f : Flags) → 0 < n
+    → ofDivided (divide n s rep d b f) .status ≡ byReason (applies ZeroDivisor n s d b) (applies TooWide n s d b) (applies SignRange n s d b)
+divide-status n s rep d b f hn =
+    ap (λ (o : DivideOutcome). ofOutcome o (divide n s rep d b f .flags) (divide n s rep d b f .steps) .status) (by-reason n s d b hn f rep)
+    ∙ by (applies ZeroDivisor n s d b) (applies TooWide n s d b) (applies SignRange n s d b)
   where
-    by : (k : Bool) → accepts n s d b ≡ k → ofDivided (divide n s rep d b f) .status ≡ cond (not k) 6 0
-    by true e = rw e
-    by false e = rw e
+    by : (z w r : Bool)
+        → ofOutcome (cond z (refused ZeroDivisor) (cond w (refused TooWide) (cond r (refused SignRange) (accepted (resultsOf n s rep d b))))) (divide n s rep d b f .flags) (divide n s rep d b f .steps) .status
+        ≡ byReason z w r
+    by true w r = refl
+    by false true r = refl
+    by false false true = refl
+    by false false false = refl
+
+some-bits : (w : Width) → 0 < bits w
+some-bits Byte = omega arith
+some-bits Word = omega arith
 
 -- the charts give none of 1 to 5
 never-1-to-5 : (o : Operation) (x y : ℕ) (f : Flags) → 1 ≤ chartedBy o x y f .status → chartedBy o x y f .status ≤ 5 → ⊥
 never-1-to-5 (OfAlu alu w) x y f low high = omega (arith, alu-status (bits w) alu x y f)
 never-1-to-5 (OfMultiply m) x y f low high = omega (arith, product-status (m .width) (multiply (bits (m .width)) (m .signed) (m .rep) x y f))
 never-1-to-5 (OfDivide m) x y f low high =
-    by (not (accepts (bits (m .width)) (m .signed) x y)) (divide-status (bits (m .width)) (m .signed) (m .rep) x y f) low high
+    let n = bits (m .width) in
+    by (applies ZeroDivisor n (m .signed) x y) (applies TooWide n (m .signed) x y) (applies SignRange n (m .signed) x y) (divide-status n (m .signed) (m .rep) x y f (some-bits (m .width))) low high
   where
-    by : (k : Bool) {status : ℕ} → status ≡ cond k 6 0 → 1 ≤ status → status ≤ 5 → ⊥
-    by true e low high = omega arith
-    by false e low high = omega arith
+    by : (z w r : Bool) {status : ℕ} → status ≡ byReason z w r → 1 ≤ status → status ≤ 5 → ⊥
+    by true w r e low high = omega arith
+    by false true r e low high = omega arith
+    by false false true e low high = omega arith
+    by false false false e low high = omega arith
 never-1-to-5 (OfDecimal decimal) x y f low high = omega arith
 
 same : (a b : Bool) → Bool·beq a b ≡ true → a ≡ b
@@ -97,7 +117,10 @@ same false false e = refl
 -- ---- the table
 
 module _ (r : Raw) where
-  charted-status : (o : Operation) → divides (r .op) (r .mode) o ≡ true → chartedBy o (r .x) (r .y) (flagsOf (r .flags)) .status ≡ cond (refusesDivide r) 6 0
+  abbrev of-divide : ℕ
+  of-divide = byReason (refusedFor ZeroDivisor r) (refusedFor TooWide r) (refusedFor SignRange r)
+
+  charted-status : (o : Operation) → divides (r .op) (r .mode) o ≡ true → chartedBy o (r .x) (r .y) (flagsOf (r .flags)) .status ≡ of-divide
   charted-status (OfAlu alu w) d = rw (not-true (eqb (r .op) 0x11) d) (alu-status (bits w) alu (r .x) (r .y) (flagsOf (r .flags)))
   charted-status (OfMultiply m) d =
       rw (not-true (eqb (r .op) 0x11) d) (product-status (m .width) (multiply (bits (m .width)) (m .signed) (m .rep) (r .x) (r .y) (flagsOf (r .flags))))
@@ -106,18 +129,18 @@ module _ (r : Raw) where
       let b = both (eqb (r .op) 0x11) (eqb (bits (m .width)) (widthBy (r .mode))) (a .0) in
       let n = eqb-true (bits (m .width)) (widthBy (r .mode)) (b .1) in
       let s = same (m .signed) (isSet 1 (r .mode)) (a .1) in
-      rw (b .0, ← n, ← s) (divide-status (bits (m .width)) (m .signed) (m .rep) (r .x) (r .y) (flagsOf (r .flags)))
+      rw (b .0, ← n, ← s) (divide-status (bits (m .width)) (m .signed) (m .rep) (r .x) (r .y) (flagsOf (r .flags)) (some-bits (m .width)))
   charted-status (OfDecimal decimal) d = rw (not-true (eqb (r .op) 0x11) d)
 
   -- of an operation: its limits, then its chart
   named-status : (o : Operation) → xMost o + 1 ≡ 2 ^ xBits (r .op) (r .mode) → yMost o + 1 ≡ 2 ^ yBits (r .op) (r .mode) → divides (r .op) (r .mode) o ≡ true
-      → ofJudged (judgedBy (Names o) r) .status ≡ cond (tooLarge r) 5 (cond (refusesDivide r) 6 0)
+      → ofJudged (judgedBy (Names o) r) .status ≡ cond (tooLarge r) 5 of-divide
   unfolding charted
   named-status o ex ey d =
       rw (past (xMost o) (2 ^ xBits (r .op) (r .mode)) (r .x) ex, past (yMost o) (2 ^ yBits (r .op) (r .mode)) (r .y) ey, ← is-masked (r .flags), any-not-all)
       (by (inLimits o (r .flags) (r .x) (r .y)))
     where
-      by : (k : Bool) → ofJudged (cond k (Admitted (requestOf o r)) TooLarge) .status ≡ cond (not k) 5 (cond (refusesDivide r) 6 0)
+      by : (k : Bool) → ofJudged (cond k (Admitted (requestOf o r)) TooLarge) .status ≡ cond (not k) 5 of-divide
       by true = charted-status o d
       by false = refl
 
@@ -145,8 +168,8 @@ module _ (r : Raw) where
   statuses k = let first = first-given (rows r) refl k in (λ e. first .0 (sym by-table ∙ e), λ g. by-table ∙ first .1 g)
 
   -- no other status exists
-  pub up-to-6 : asked r .status ≤ 6
-  up-to-6 = omega (arith, by-table, first-most (rows r))
+  pub no-other : among (asked r .status) (0 ∷ 3 ∷ 4 ∷ 5 ∷ 6 ∷ 8 ∷ 9 ∷ []) ≡ true
+  no-other = rw by-table (first-among (rows r))
 
   -- after 1 to 5 the rest is zeros
   pub rest-zeros : 1 ≤ asked r .status → asked r .status ≤ 5 → asked r ≡ zeros (asked r .status)

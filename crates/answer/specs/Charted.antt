@@ -8,6 +8,8 @@ use Rattle.alu.specs.Shift.{shl, shr, sar, rol, ror, rcl, rcr, shlAf}
 use Rattle.multiply.specs.Routines.{Multiplied}
 use Rattle.multiply.specs.Multiply.{multiply}
 use Rattle.divide.specs.Divide.{DivideOutcome, Divided, accepted, refused, divide}
+use Rattle.divide.specs.declared.div.Refusal.{Refusal}
+use Rattle.divide.specs.declared.div.Refusal.the-variants.{ZeroDivisor, TooWide, SignRange}
 use Rattle.bcd.specs.Ascii.{aaaOf, aasOf, aadOf}
 use Rattle.bcd.specs.Decimal.{daaOf, dasOf}
 use Rattle.bcd.specs.declared.adjust.Adjusted.{Adjusted}
@@ -67,10 +69,16 @@ ofProduct8 m = wholeOf 0 (m .flags) (m .steps) (m .product) 0
 abbrev pub ofProduct16 : Multiplied → Answer
 ofProduct16 m = wholeOf 0 (m .flags) (m .steps) (m .product / 0x1_0000) (m .product % 0x1_0000)
 
--- either refusal is status 6
+-- the status tells why a divide is refused
+abbrev pub refusalStatus : Refusal → ℕ
+refusalStatus ZeroDivisor = 6
+refusalStatus TooWide = 8
+refusalStatus SignRange = 9
+
+-- quotient and remainder, or the status of the refusal and no result
 abbrev pub ofOutcome : DivideOutcome → Flags → ℕ → Answer
 ofOutcome (accepted results) f steps = wholeOf 0 f steps (results .quotient) (results .remainder)
-ofOutcome (refused refusal) f steps = wholeOf 6 f steps 0 0
+ofOutcome (refused why) f steps = wholeOf (refusalStatus why) f steps 0 0
 
 -- a divide, with its flags and steps whichever it is
 abbrev pub ofDivided : Divided → Answer

@@ -6,7 +6,9 @@ use Prim.Native.Nat.{ℕ, _+_, _^_}
 use lib.Bits.{bitAnd}
 use lib.Dec.{leb, ltb, eqb}
 use Rattle.flags.specs.Numbers.{between, isSet}
-use Rattle.divide.specs.Divide.{accepts}
+use Rattle.divide.specs.Divide.{applies}
+use Rattle.divide.specs.declared.div.Refusal.{Refusal}
+use Rattle.divide.specs.declared.div.Refusal.the-variants.{ZeroDivisor, TooWide, SignRange}
 use Rattle.answer.specs.Asked.{Raw}
 
 -- a row is a status and whether it applies. Status k is given: k's row applies and none before it does; 0 where none applies
@@ -47,9 +49,9 @@ abbrev pub tooLarge : Raw → Bool
 tooLarge r =
     leb (2 ^ xBits (r .op) (r .mode)) (r .x) || leb (2 ^ yBits (r .op) (r .mode)) (r .y) || not (eqb (bitAnd (r .flags) 0x08D5) (r .flags))
 
--- divide refused
-abbrev pub refusesDivide : Raw → Bool
-refusesDivide r = eqb (r .op) 0x11 && not (accepts (widthBy (r .mode)) (isSet 1 (r .mode)) (r .x) (r .y))
+-- divide refused, and why: zero divisor, too wide, or sign range
+abbrev pub refusedFor : Refusal → Raw → Bool
+refusedFor why r = eqb (r .op) 0x11 && applies why (widthBy (r .mode)) (isSet 1 (r .mode)) (r .x) (r .y)
 
 -- the rows
 abbrev pub rows : Raw → List (ℕ × Bool)
@@ -57,5 +59,12 @@ rows r =
     (3, unlisted (r .op))
     ∷ (4, wrongMode (r .op) (r .mode))
     ∷ (5, tooLarge r)
-    ∷ (6, refusesDivide r)
+    ∷ (6, refusedFor ZeroDivisor r)
+    ∷ (8, refusedFor TooWide r)
+    ∷ (9, refusedFor SignRange r)
     ∷ []
+
+-- one of the numbers listed
+abbrev pub among : ℕ → List ℕ → Bool
+among k [] = false
+among k (j ∷ js) = eqb k j || among k js

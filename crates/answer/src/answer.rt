@@ -2,7 +2,7 @@
 ghost use mathlib.Core.Path.{_≡_};
 ghost use Rattle.divide.specs.Views.{divided8, divided16};
 ghost use Rattle.multiply.specs.Views.{product8, product16};
-ghost use Rattle.answer.specs.Charted.{wholeOf, plainOf, ofProduct8, ofProduct16, ofDivided, ofAdjusted, adjustOf};
+ghost use Rattle.answer.specs.Charted.{wholeOf, plainOf, ofProduct8, ofProduct16, refusalStatus, ofDivided, ofAdjusted, adjustOf};
 use bcd::adjust::Adjusted;
 use bcd::ascii;
 use bcd::decimal;
@@ -10,6 +10,7 @@ use divide::div::DivideOutcome8;
 use divide::div::DivideOutcome16;
 use divide::div::Divided8;
 use divide::div::Divided16;
+use divide::div::Refusal;
 use flags::parity;
 use flags::word::Flags;
 use multiply::mul::Product8;
@@ -56,6 +57,16 @@ pub fn of_product16(made: Product16) -> Answer
     whole(0, made.flags, made.steps, made.upper, made.lower)
 }
 
+fn refusal_status(why: Refusal) -> u8
+    ensures { λ r. ⌜ r ≡ refusalStatus why ⌝ }
+{
+    match why {
+        Refusal::ZeroDivisor => 6,
+        Refusal::TooWide => 8,
+        Refusal::SignRange => 9,
+    }
+}
+
 pub fn of_divided8(made: Divided8) -> Answer
     ensures { λ a. ⌜ a ≡ ofDivided (divided8 made) ⌝ }
 {
@@ -68,7 +79,7 @@ pub fn of_divided8(made: Divided8) -> Answer
             results.quotient as u16,
             results.remainder as u16,
         ),
-        DivideOutcome8::Refused(_) => whole(6, made.flags, made.steps, 0, 0),
+        DivideOutcome8::Refused(why) => whole(refusal_status(why), made.flags, made.steps, 0, 0),
     }
 }
 
@@ -84,7 +95,7 @@ pub fn of_divided16(made: Divided16) -> Answer
             results.quotient,
             results.remainder,
         ),
-        DivideOutcome16::Refused(_) => whole(6, made.flags, made.steps, 0, 0),
+        DivideOutcome16::Refused(why) => whole(refusal_status(why), made.flags, made.steps, 0, 0),
     }
 }
 

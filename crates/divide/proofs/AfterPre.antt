@@ -10,8 +10,8 @@ use Rattle.divide.specs.Cord.{Results, CordAnswer, cord}
 use Rattle.divide.specs.Idiv.{PostAnswer, preIdiv, postIdiv}
 use Rattle.divide.specs.Flags.{compareFlags}
 use Rattle.divide.specs.Divide.{refused, dividendOf, divisorOf, preSteps, divide}
-use Rattle.divide.specs.Finish.{finished}
-use Rattle.divide.specs.declared.div.Refusal.the-variants.{FirstCompare}
+use Rattle.divide.specs.Finish.{firstRefusal, finished}
+use Rattle.divide.specs.declared.div.Refusal.{Refusal}
 use Rattle.divide.proofs.DivLaws.{few-steps, pre-divisor, pre-flag, pre-few, pre-most, cord-of-pre, signed-refused, signed-finished}
 
 -- the operands, and what PREIDIV hands on
@@ -37,8 +37,8 @@ module _ (n : ℕ) (s : AfterPre n) where
   goes-on = cord-of-pre n (s .dividend) (s .divisor) (s .rep) (s .some) (s .wide) (s .fits) (s .handed)
 
   module _ {a : CordAnswer} (e : a ≡ onward) where
-    pub refuses : (f : Flags) → a .outcome ≡ Cord.refused
-        → record { outcome = refused FirstCompare; flags = f; steps = a .steps } ≡ divide n true (s .rep) (s .dividend) (s .divisor) f
+    pub refuses : (f : Flags) → a .outcome ≡ Cord.refused → {why : Refusal} → why ≡ firstRefusal (s .divisor)
+        → record { outcome = refused why; flags = f; steps = a .steps } ≡ divide n true (s .rep) (s .dividend) (s .divisor) f
     refuses f = signed-refused n (s .dividend) (s .divisor) (s .rep) (s .some) (s .wide) (s .fits) f e
 
     pub few-after : n ≤ 16 → {r : Results} → a .outcome ≡ Cord.accepted r → a .steps ≤ 175

@@ -35,14 +35,21 @@ unfolding signed
 nothing n true = rw (lt-leb (top n) 0 (pow-pos (n - 1)))
 nothing n false = refl
 
+-- where there is a division, the divisor is not 0, and the quotient is that of the definitions
+module _ (n : ℕ) (s : Bool) (d b : ℕ) {q r : ℤ} (h : Division (valued s (n + n) d) (valued s n b) q r) where
+  pub not-by-zero : b ≡ 0 → ⊥
+  not-by-zero e = omega (arith, h .smaller, ap (magnitude s n) e, nothing n s)
+
+  pub quotient-is : quotientOf n s d b ≡ q
+  quotient-is = sym (quotient-determined (valued s (n + n) d) (valued s n b) q r h)
+
 -- the same in the manual's own words: where there is a division, the divide is refused exactly if its quotient is out of range
 pub manual-traps : (n : ℕ) (s rep : Bool) (d b : ℕ) (f : Flags) {q r : ℤ} → Division (valued s (n + n) d) (valued s n b) q r
     → isRefused (divide n s rep d b f .outcome) ≡ not (inRange n s q)
-manual-traps n s rep d b f {q} {r} h =
-    let there : b ≡ 0 → ⊥ = λ e. omega (arith, h .smaller, ap (magnitude s n) e, nothing n s) in
+manual-traps n s rep d b f h =
     manual-refuses n s rep d b f
-    ∙ ap (λ (z : Bool). z || not (inRange n s (quotientOf n s d b))) (ne-eqb b 0 there)
-    ∙ ap (λ (z : ℤ). not (inRange n s z)) (sym (quotient-determined (valued s (n + n) d) (valued s n b) q r h))
+    ∙ ap (λ (z : Bool). z || not (inRange n s (quotientOf n s d b))) (ne-eqb b 0 (not-by-zero n s d b h))
+    ∙ ap (λ (z : ℤ). not (inRange n s z)) (quotient-is n s d b h)
 
 -- without REP the quotient is returned as it is
 pub without-rep : (s : Bool) (q : ℤ) → quotientReturned s false q ≡ q

@@ -1,7 +1,7 @@
 -- Divide over the width n: what CORD, PREIDIV and POSTIDIV answer makes up the manual's quotient, remainder and refusals, and the chart's
 -- flags and steps. Assumes nothing.
 use mathlib.Core.Path.{_≡_, refl, sym, ap, ap₂, subst, _∙_}
-use mathlib.Core.Bool.{Bool, true, false, not, cond, xor, _&&_}
+use mathlib.Core.Bool.{Bool, true, false, not, cond, xor, _&&_, _||_, false≢true, true≢false}
 use mathlib.Core.Logic.{_⊎_, inl, inr, ⊎-elim}
 use Prim.Native.Nat.{ℕ, zero, suc, _+_, _-_, _*_, _/_, _%_, _^_, _≤_, _<_}
 use native.Mathlib.Nat.{le-trans, mod-lt, mod-eq-of-lt, div-lt-iff-lt-mul, div-add-mod', mul-comm}
@@ -23,10 +23,10 @@ use Rattle.divide.specs.Cord.{Results, CordAnswer, lastCompare, cordStep
 use Rattle.divide.specs.Idiv as Idiv
 use Rattle.divide.specs.Idiv.{preIdiv, withSign, postIdiv}
 use Rattle.divide.specs.Flags.{compareFlags}
-use Rattle.divide.specs.Divide.{Divided, accepted, refused, accepts, quotientOf, remainderOf, dividendOf, divisorOf, atFirst, refusalOf, preSteps, acceptedSteps, refusedSteps, acceptedFlags, refusedFlags, divide}
-use Rattle.divide.specs.Finish.{finished}
+use Rattle.divide.specs.Divide.{Divided, accepted, refused, accepts, tooWide, applies, refusalOf, quotientOf, remainderOf, dividendOf, divisorOf, atFirst, preSteps, acceptedSteps, refusedSteps, acceptedFlags, refusedFlags, divide}
+use Rattle.divide.specs.Finish.{firstRefusal, finished}
 use Rattle.divide.specs.declared.div.Refusal.{Refusal}
-use Rattle.divide.specs.declared.div.Refusal.the-variants.{FirstCompare, SignRange}
+use Rattle.divide.specs.declared.div.Refusal.the-variants.{ZeroDivisor, TooWide, SignRange}
 
 -- a quotient is below m where the dividend's part above m is below the divisor; m and b exchanged, the other way round
 pub below : (d b m : ℕ) → 0 < m → d / m < b → d / b < m
@@ -82,14 +82,52 @@ module _ (n b d before : ℕ) {a : CordAnswer} where
 
 -- ---- refusals
 
-module _ (n : ℕ) (s : Bool) (d b : ℕ) where
-  pub first-refusal : atFirst n s d b ≡ true → FirstCompare ≡ refusalOf n s d b
-  unfolding refusalOf
-  first-refusal e = rw e
+-- too wide is at least 2 ^ n
+pub wide-true : (n q : ℕ) → tooWide n q ≡ true → 2 ^ n ≤ q
+wide-true n q e = leb-true (2 ^ n) q e
 
-  pub later-refusal : atFirst n s d b ≡ false → SignRange ≡ refusalOf n s d b
-  unfolding refusalOf
-  later-refusal e = rw e
+pub wide-false : (n q : ℕ) → tooWide n q ≡ false → q < 2 ^ n
+wide-false n q e = leb-false (2 ^ n) q e
+
+-- the upper half is at least the divisor, where that is not 0, exactly if the quotient is too wide
+wide-first : (n d b : ℕ) → 0 < b → leb b (d / 2 ^ n) ≡ tooWide n (d / b)
+wide-first n d b hb = by (leb b (d / 2 ^ n)) (tooWide n (d / b)) refl refl
+  where
+    by : (x y : Bool) → leb b (d / 2 ^ n) ≡ x → tooWide n (d / b) ≡ y → x ≡ y
+    by true true e f = refl
+    by false false e f = refl
+    by true false e f = absurd (omega (arith, leb-true b (d / 2 ^ n) e, below d (2 ^ n) b hb (wide-false n (d / b) f)))
+    by false true e f = absurd (omega (arith, wide-true n (d / b) f, below d b (2 ^ n) (pow-pos n) (leb-false b (d / 2 ^ n) e)))
+
+module _ (n : ℕ) (s : Bool) (d b : ℕ) where
+  -- what is known of the operands: the divisor's magnitude is 0 where it is 0, and else the quotient's is that of the magnitudes
+  abbrev pub ByMagnitudes : Type 0
+  ByMagnitudes = ((eqb b 0 ≡ true) × (divisorOf n s b ≡ 0))
+      ⊎ ((eqb b 0 ≡ false) × (0 < divisorOf n s b) × (natAbs (quotientOf n s d b) ≡ dividendOf n s d / divisorOf n s b))
+
+  -- the first compare refuses for the first two reasons, and for no other
+  pub compared-first : ByMagnitudes → atFirst n s d b ≡ applies ZeroDivisor n s d b || applies TooWide n s d b
+  compared-first (inl (z, m)) = rw (z, m) (le-leb 0 (dividendOf n s d / 2 ^ n) (omega arith))
+  compared-first (inr (z, m, q)) = rw (z, q) (wide-first n (dividendOf n s d) (divisorOf n s b) m)
+
+  module _ (known : ByMagnitudes) where
+    pub first-refusal : atFirst n s d b ≡ true → firstRefusal b ≡ refusalOf n s d b
+    unfolding refusalOf
+    first-refusal e = by (eqb b 0) (tooWide n (natAbs (quotientOf n s d b))) (sym (compared-first known) ∙ e)
+      where
+        by : (z w : Bool) → z || (not z && w) ≡ true → cond z ZeroDivisor TooWide ≡ cond z ZeroDivisor (cond (not z && w) TooWide SignRange)
+        by true w e = refl
+        by false true e = refl
+        by false false e = absurd (false≢true e)
+
+    pub later-refusal : atFirst n s d b ≡ false → SignRange ≡ refusalOf n s d b
+    unfolding refusalOf
+    later-refusal e = by (eqb b 0) (tooWide n (natAbs (quotientOf n s d b))) (sym (compared-first known) ∙ e)
+      where
+        by : (z w : Bool) → z || (not z && w) ≡ false → SignRange ≡ cond z ZeroDivisor (cond (not z && w) TooWide SignRange)
+        by true w e = absurd (true≢false e)
+        by false true e = absurd (true≢false e)
+        by false false e = refl
 
   -- the answer, from its parts
   pub refused-is : (rep : Bool) (f : Flags) → accepts n s d b ≡ false → {why : Refusal} {g : Flags} {t : ℕ}
@@ -100,11 +138,17 @@ module _ (n : ℕ) (s : Bool) (d b : ℕ) where
 
 -- ---- unsigned
 
+pub unsigned-known : (n d b : ℕ) → ByMagnitudes n false d b
+unsigned-known n d zero = inl (eq-eqb 0 0 refl, refl)
+unsigned-known n d (suc b) = inr (ne-eqb (suc b) 0 (λ e. omega arith), omega arith, refl)
+
 module _ (n d b : ℕ) (rep : Bool) (f : Flags) {a : CordAnswer} (e : a ≡ cord n b d 5) where
-  pub unsigned-refused : a .outcome ≡ Cord.refused → record { outcome = refused FirstCompare; flags = f; steps = a .steps } ≡ divide n false rep d b f
-  unsigned-refused h =
+  pub unsigned-refused : a .outcome ≡ Cord.refused → {why : Refusal} → why ≡ firstRefusal b
+      → record { outcome = refused why; flags = f; steps = a .steps } ≡ divide n false rep d b f
+  unsigned-refused h ew =
       let w = when-refused n b d 5 e h in
-      refused-is n false d b rep f (le-ltb (d / 2 ^ n) b (w .0)) (first-refusal n false d b (le-leb b (d / 2 ^ n) (w .0))) refl (w .1)
+      let first = first-refusal n false d b (unsigned-known n d b) (le-leb b (d / 2 ^ n) (w .0)) in
+      refused-is n false d b rep f (le-ltb (d / 2 ^ n) b (w .0)) (ew ∙ first) refl (w .1)
 
   pub unsigned-accepted : b < 2 ^ n → {r : Results} → a .outcome ≡ Cord.accepted r → {g : Flags} → g ≡ compareFlags n (a .compared) b (a .carry) f
       → record { outcome = accepted r; flags = g; steps = a .steps + 2 } ≡ divide n false rep d b f
@@ -210,9 +254,17 @@ module _ (n d b : ℕ) (rep : Bool) (hn : 0 < n) (hd : d < 2 ^ (n + n)) (hb : b 
   pub rule : 0 < divisorOf n true b → accepts n true d b ≡ ltb (dividendOf n true d / divisorOf n true b) (top n)
   rule h = rw (nonzero h) (ap (λ (z : ℤ). ltb (natAbs z) (top n)) (quotient-by h) ∙ ap (λ (k : ℕ). ltb k (top n)) (abs-sign (xor (topSet (n + n) d) (topSet n b)) (dividendOf n true d / divisorOf n true b)))
 
+  pub signed-known : ByMagnitudes n true d b
+  signed-known = by (divisorOf n true b) refl zero-or-not
+    where
+      by : (k : ℕ) → divisorOf n true b ≡ k → (0 < divisorOf n true b) ⊎ (eqb b 0 ≡ true) → ByMagnitudes n true d b
+      by zero e (inl p) = absurd (omega arith)
+      by zero e (inr z) = inl (z, e)
+      by (suc k) e h = let p : 0 < divisorOf n true b = omega arith in inr (nonzero p, p, ap natAbs (quotient-by p) ∙ abs-sign (xor (topSet (n + n) d) (topSet n b)) (dividendOf n true d / divisorOf n true b))
+
   -- refused by the first compare, whatever the reason
-  too-wide : divisorOf n true b ≤ dividendOf n true d / 2 ^ n → accepts n true d b ≡ false
-  too-wide h = ⊎-elim (λ p. rule p ∙ by p (ltb (dividendOf n true d / divisorOf n true b) (top n)) refl) (λ z. rw z) zero-or-not
+  refused-first : divisorOf n true b ≤ dividendOf n true d / 2 ^ n → accepts n true d b ≡ false
+  refused-first h = ⊎-elim (λ p. rule p ∙ by p (ltb (dividendOf n true d / divisorOf n true b) (top n)) refl) (λ z. rw z) zero-or-not
     where
       by : 0 < divisorOf n true b → (x : Bool) → ltb (dividendOf n true d / divisorOf n true b) (top n) ≡ x → x ≡ false
       by p true e =
@@ -221,11 +273,12 @@ module _ (n d b : ℕ) (rep : Bool) (hn : 0 < n) (hd : d < 2 ^ (n + n)) (hb : b 
       by p false e = refl
 
   module _ (f : Flags) {a : CordAnswer} (e : a ≡ cord n (divisorOf n true b) (dividendOf n true d) (6 + preSteps n d b)) where
-    pub signed-refused : a .outcome ≡ Cord.refused → record { outcome = refused FirstCompare; flags = f; steps = a .steps } ≡ divide n true rep d b f
-    signed-refused h =
+    pub signed-refused : a .outcome ≡ Cord.refused → {why : Refusal} → why ≡ firstRefusal b
+        → record { outcome = refused why; flags = f; steps = a .steps } ≡ divide n true rep d b f
+    signed-refused h ew =
         let w = when-refused n (divisorOf n true b) (dividendOf n true d) (6 + preSteps n d b) e h in
         let first = le-leb (divisorOf n true b) (dividendOf n true d / 2 ^ n) (w .0) in
-        refused-is n true d b rep f (too-wide (w .0)) (first-refusal n true d b first) refl (w .1 ∙ rw first (omega arith))
+        refused-is n true d b rep f (refused-first (w .0)) (ew ∙ first-refusal n true d b signed-known first) refl (w .1 ∙ rw first (omega arith))
 
     module _ {r : Results} (h : a .outcome ≡ Cord.accepted r) where
       w : AcceptedBy n (divisorOf n true b) (dividendOf n true d) (6 + preSteps n d b) a r
@@ -247,7 +300,7 @@ module _ (n d b : ℕ) (rep : Bool) (hn : 0 < n) (hd : d < 2 ^ (n + n)) (hb : b 
           by false x p =
               let later = lt-leb (divisorOf n true b) (dividendOf n true d / 2 ^ n) (w .passed) in
               let steps : u ≡ a .steps + 3 + 2 = cc in
-              refused-is n true d b rep f x (later-refusal n true d b later) refl (steps ∙ rw later (omega (arith, w .steps)))
+              refused-is n true d b rep f x (later-refusal n true d b signed-known later) refl (steps ∙ rw later (omega (arith, w .steps)))
 
       -- accepted
       signed-accepted : {negate : Bool} → negate ≡ xor rep (xor (topSet (n + n) d) (topSet n b)) → {q′ r′ u : ℕ}

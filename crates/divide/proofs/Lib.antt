@@ -8,4 +8,5 @@ pub mod AfterPre
 pub mod Logged
 pub mod Manual
 pub mod Answers
+pub mod Refusals
 pub mod Demand3

@@ -202,7 +202,7 @@ pub range-unsigned : (n k : ℕ) → inRange n false (pos k) ≡ ltb k (2 ^ n)
 range-unsigned n k = rw (le-leb 0 k (omega arith)) (below-next k (largestQuotient n false) (2 ^ n) (omega (arith, pow-pos n)))
 
 -- the divisor is above the dividend's upper half exactly if it is not 0 and the quotient fits
-quotient-fits : (n d b : ℕ) → ltb (d / 2 ^ n) b ≡ not (eqb b 0) && ltb (d / b) (2 ^ n)
+pub quotient-fits : (n d b : ℕ) → ltb (d / 2 ^ n) b ≡ not (eqb b 0) && ltb (d / b) (2 ^ n)
 quotient-fits n d zero = le-ltb (d / 2 ^ n) 0 (omega arith)
 quotient-fits n d (suc b) = rw (ne-eqb (suc b) 0 (λ e. omega arith)) (by (ltb (d / 2 ^ n) (suc b)) (ltb (d / suc b) (2 ^ n)) refl refl)
   where

@@ -1,17 +1,17 @@
 -- Divide: 2n bits by n bits. Quotient, remainder and refusals are the manual's; REP, flags and steps are the chart's.
 -- Assumes nothing.
 use mathlib.Core.Bool.{Bool, true, false, not, cond, _&&_}
-use Prim.Native.Nat.{ℕ, _+_, _*_, _/_, _%_, _^_}
+use Prim.Native.Nat.{ℕ, _+_, _-_, _*_, _/_, _%_, _^_}
 use lib.Dec.{leb, ltb, eqb}
 use lib.IntN.{ℤ, negℤ, natAbs}
 use lib.Signed.{quotZ, remZ}
-use Rattle.flags.specs.Numbers.{top, topSet, valued, magnitude, wrapped}
+use Rattle.flags.specs.Numbers.{between, top, topSet, valued, magnitude, wrapped}
 use Rattle.flags.specs.Word.{setCO}
 use Rattle.flags.specs.declared.word.Flags.{Flags}
 use Rattle.divide.specs.Cord.{Results, lastCompare, cordSteps}
 use Rattle.divide.specs.Flags.{compareFlags}
 use Rattle.divide.specs.declared.div.Refusal.{Refusal}
-use Rattle.divide.specs.declared.div.Refusal.the-variants.{FirstCompare, SignRange}
+use Rattle.divide.specs.declared.div.Refusal.the-variants.{ZeroDivisor, TooWide, SignRange}
 
 -- the results, or why there are none
 pub data DivideOutcome : Type 0 where
@@ -38,6 +38,25 @@ abbrev pub accepts : ℕ → Bool → ℕ → ℕ → Bool
 accepts n false d b = ltb (d / 2 ^ n) b
 accepts n true d b = not (eqb b 0) && ltb (natAbs (quotientOf n true d b)) (top n)
 
+-- a quotient's magnitude that n bits do not hold
+abbrev pub tooWide : ℕ → ℕ → Bool
+tooWide n q = leb (2 ^ n) q
+
+-- one that they hold, but not with a sign
+abbrev pub signRange : ℕ → ℕ → Bool
+signRange n q = between (top n) (2 ^ n - 1) q
+
+-- why a divide is refused: the divisor is 0; it is not 0, and the quotient's magnitude is at least 2 ^ n; or the divide is signed, the divisor
+-- not 0, and the magnitude from 2 ^ (n - 1) to 2 ^ n - 1
+abbrev pub applies : Refusal → ℕ → Bool → ℕ → ℕ → Bool
+applies ZeroDivisor n s d b = eqb b 0
+applies TooWide n s d b = not (eqb b 0) && tooWide n (natAbs (quotientOf n s d b))
+applies SignRange n s d b = s && not (eqb b 0) && signRange n (natAbs (quotientOf n s d b))
+
+-- the three are tested in that order, of a divide that is not accepted: where the first two do not apply, the third does
+unfoldable pub refusalOf : ℕ → Bool → ℕ → ℕ → Refusal
+refusalOf n s d b = cond (applies ZeroDivisor n s d b) ZeroDivisor (cond (applies TooWide n s d b) TooWide SignRange)
+
 -- the dividend that CORD works on: a magnitude
 abbrev pub dividendOf : ℕ → Bool → ℕ → ℕ
 dividendOf n s d = magnitude s (n + n) d
@@ -49,10 +68,6 @@ divisorOf n s b = magnitude s n b
 -- a divide that is refused is so at the first compare, where the upper half is at least the divisor, or else later
 abbrev pub atFirst : ℕ → Bool → ℕ → ℕ → Bool
 atFirst n s d b = leb (divisorOf n s b) (dividendOf n s d / 2 ^ n)
-
--- why it is, read only of a divide that is refused: by the first compare, or for sign range
-unfoldable pub refusalOf : ℕ → Bool → ℕ → ℕ → Refusal
-refusalOf n s d b = cond (atFirst n s d b) FirstCompare SignRange
 
 -- PREIDIV: 7 steps for a negative dividend or 3, and 5 for a negative divisor or 6
 abbrev pub preSteps : ℕ → ℕ → ℕ → ℕ

@@ -1,10 +1,17 @@
--- How a signed divide ends, from POSTIDIV's answer. Assumes nothing.
-use mathlib.Core.Bool.{false}
+-- How a divide ends: refused by CORD, or, signed, by what POSTIDIV answers. Assumes nothing.
+use mathlib.Core.Bool.{false, cond}
+use Prim.Native.Nat.{ℕ}
+use lib.Dec.{eqb}
 use Rattle.flags.specs.Word.{setCO}
 use Rattle.flags.specs.declared.word.Flags.{Flags}
 use Rattle.divide.specs.Idiv as Idiv
 use Rattle.divide.specs.Divide.{Divided, accepted, refused}
-use Rattle.divide.specs.declared.div.Refusal.the-variants.{SignRange}
+use Rattle.divide.specs.declared.div.Refusal.{Refusal}
+use Rattle.divide.specs.declared.div.Refusal.the-variants.{ZeroDivisor, TooWide, SignRange}
+
+-- CORD refuses at its first compare; the divisor tells why
+abbrev pub firstRefusal : ℕ → Refusal
+firstRefusal b = cond (eqb b 0) ZeroDivisor TooWide
 
 -- g are the flags that the last compare left, f those handed in
 abbrev pub finished : Idiv.PostAnswer → Flags → Flags → Divided

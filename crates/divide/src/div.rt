@@ -3,7 +3,7 @@ ghost use mathlib.Core.Path.{_≡_};
 ghost use Rattle.flags.specs.Parity.{ParityTable};
 ghost use Rattle.divide.specs.Flags.{compareFlags};
 ghost use Rattle.divide.specs.Divide.{divide};
-ghost use Rattle.divide.specs.Finish.{finished};
+ghost use Rattle.divide.specs.Finish.{firstRefusal, finished};
 ghost use Rattle.divide.specs.Views.{post8Answer, post16Answer, divided8, divided16};
 ghost use mathlib.Core.Bool.{true, false};
 use crate::cord;
@@ -21,10 +21,23 @@ use flags::word::Flags;
 use negate::Pair8;
 use negate::Pair16;
 
-// Where a divide was refused: by CORD's first compare, or by POSTIDIV for the signed range.
+// Why a divide was refused: by a divisor of 0, a quotient that its width does not hold, or one that
+// the width holds, but not with a sign.
 pub enum Refusal {
-    FirstCompare,
+    ZeroDivisor,
+    TooWide,
     SignRange,
+}
+
+// CORD's first compare refuses for either of two reasons, and the divisor tells which.
+fn first_refusal(divisor: u16) -> Refusal
+    ensures { λ r. ⌜ r ≡ firstRefusal divisor ⌝ }
+{
+    if divisor == 0 {
+        Refusal::ZeroDivisor
+    } else {
+        Refusal::TooWide
+    }
 }
 
 pub enum DivideOutcome8 {
@@ -63,7 +76,7 @@ fn unsigned_div8(dividend: u16, divisor: u8, flags: Flags, table: &[u8; 256]) ->
             steps: made.steps + 2,
         },
         CordOutcome8::Refused => Divided8 {
-            outcome: DivideOutcome8::Refused(Refusal::FirstCompare),
+            outcome: DivideOutcome8::Refused(first_refusal(divisor as u16)),
             flags,
             steps: made.steps,
         },
@@ -123,7 +136,7 @@ fn signed_div8(
             finish8(post, compare, flags)
         }
         CordOutcome8::Refused => Divided8 {
-            outcome: DivideOutcome8::Refused(Refusal::FirstCompare),
+            outcome: DivideOutcome8::Refused(first_refusal(divisor as u16)),
             flags,
             steps: made.steps,
         },
@@ -185,7 +198,7 @@ fn unsigned_div16(dividend: u32, divisor: u16, flags: Flags, table: &[u8; 256]) 
             steps: made.steps + 2,
         },
         CordOutcome16::Refused => Divided16 {
-            outcome: DivideOutcome16::Refused(Refusal::FirstCompare),
+            outcome: DivideOutcome16::Refused(first_refusal(divisor)),
             flags,
             steps: made.steps,
         },
@@ -245,7 +258,7 @@ fn signed_div16(
             finish16(post, compare, flags)
         }
         CordOutcome16::Refused => Divided16 {
-            outcome: DivideOutcome16::Refused(Refusal::FirstCompare),
+            outcome: DivideOutcome16::Refused(first_refusal(divisor)),
             flags,
             steps: made.steps,
         },

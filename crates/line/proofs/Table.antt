@@ -2,7 +2,7 @@
 -- and demand 1. Assumes nothing.
 use mathlib.Core.Path.{_≡_, refl, sym, ap, subst, _∙_}
 use mathlib.Core.Bool.{Bool, true, false, not, cond}
-use mathlib.Core.List.{List}
+use mathlib.Core.List.{List, [], _∷_}
 use mathlib.Core.Logic.{_↔_}
 use Prim.Native.Nat.{ℕ, _≤_}
 use native.Mathlib.Omega.{arith}
@@ -12,11 +12,12 @@ use borrow.Author.Tests.{eqb-true, eqb-false, eq-eqb, ne-eqb, not-true, not-fals
 use Rattle.text.specs.Plain.{allDigits, fieldsIn}
 use Rattle.text.specs.declared.fields.Read.the-variants.{Fields as OfFields, Length, Digit}
 use Rattle.text.proofs.Plain.{read-plainly}
+use Rattle.answer.specs.Charted.{refusalStatus}
 use Rattle.answer.specs.Asked.{zeros, asked}
-use Rattle.answer.specs.Table.{Given, rows}
-use Rattle.answer.specs.Refused.{RefusedDivide, refusal}
+use Rattle.answer.specs.Table.{Given, rows, among}
+use Rattle.answer.specs.Refused.{Refusal, ZeroDivisor, TooWide, SignRange, RefusedDivide, refusal}
 use Rattle.answer.specs.declared.answer.Answer.{Answer}
-use Rattle.answer.proofs.Rows.{firstOf, first-given, first-most}
+use Rattle.answer.proofs.Rows.{firstOf, first-given, first-among}
 use Rattle.answer.proofs.Table.{by-table, rest-zeros}
 use Rattle.answer.proofs.Demand1.{demand-1}
 use Rattle.line.specs.One.{answerBy, answerOf, statusIn}
@@ -56,15 +57,11 @@ module _ (line : List ℕ) where
       (λ e. first .0 (sym row ∙ e), λ g. row ∙ first .1 g)
 
   -- no other status exists
-  pub line-up-to-6 : answerOf line .status ≤ 6
-  line-up-to-6 = omega (arith, first-row, first-most (lineRows line))
+  pub line-no-other : among (answerOf line .status) (0 ∷ 1 ∷ 2 ∷ 3 ∷ 4 ∷ 5 ∷ 6 ∷ 8 ∷ 9 ∷ []) ≡ true
+  line-no-other = rw first-row (first-among (lineRows line))
 
-  pub up-to-7 : (room : ℕ) → statusIn room line ≤ 7
-  up-to-7 room = by (ltb room 19)
-    where
-      by : (k : Bool) → cond k 7 (answerOf line .status) ≤ 7
-      by true = omega arith
-      by false = omega (arith, line-up-to-6)
+  pub no-other : (room : ℕ) → among (statusIn room line) (0 ∷ 7 ∷ 1 ∷ 2 ∷ 3 ∷ 4 ∷ 5 ∷ 6 ∷ 8 ∷ 9 ∷ []) ≡ true
+  no-other room = rw first-row (first-among (table room line))
 
   -- after 1 to 5 the rest is zeros
   pub line-zeros : 1 ≤ answerOf line .status → answerOf line .status ≤ 5 → answerOf line ≡ zeros (answerOf line .status)
@@ -79,19 +76,29 @@ module _ (line : List ℕ) where
   pub as-asked : length line ≡ 20 → allDigits line ≡ true → answerOf line ≡ asked (rawIn line)
   as-asked long digits = rw (eq-eqb (length line) 20 long, digits) at plainly
 
-  -- demand 1: status 6 exactly for a line with a refused divide, and then the answer is its refusal
-  pub line-demand-1 : (answerOf line .status ≡ 6 ↔ (length line ≡ 20) × (allDigits line ≡ true) × RefusedDivide (rawIn line))
-      × (answerOf line .status ≡ 6 → answerOf line ≡ refusal (rawIn line))
-  line-demand-1 = (
-    (λ e. let h = read e in (h .0, h .1, refused e), λ h. ap (λ (a : Answer). a .status) (as-asked (h .0) (h .1)) ∙ demand-1 (rawIn line) .0 .1 (h .2)),
-    λ e. let h = read e in as-asked (h .0) (h .1) ∙ demand-1 (rawIn line) .1 (refused e),
+  -- a refused divide stands in 20 digits
+  read : (why : Refusal) → answerOf line .status ≡ refusalStatus why → (length line ≡ 20) × (allDigits line ≡ true)
+  read why e = by why e
+    where
+      rows-1-2 : not (eqb (length line) 20) ≡ false → not (allDigits line) ≡ false → (length line ≡ 20) × (allDigits line ≡ true)
+      rows-1-2 long digits = (eqb-true (length line) 20 (not-false (eqb (length line) 20) long), not-false (allDigits line) digits)
+
+      by : (why : Refusal) → answerOf line .status ≡ refusalStatus why → (length line ≡ 20) × (allDigits line ≡ true)
+      by ZeroDivisor e = let g = line-statuses 6 .0 e in rows-1-2 (g .0) (g .1 .0)
+      by TooWide e = let g = line-statuses 8 .0 e in rows-1-2 (g .0) (g .1 .0)
+      by SignRange e = let g = line-statuses 9 .0 e in rows-1-2 (g .0) (g .1 .0)
+
+  -- demand 1: the status of a reason, 6, 8 or 9, exactly for a line with a divide that is refused for it, and then the answer is its refusal
+  pub line-demand-1 : (why : Refusal)
+      → (answerOf line .status ≡ refusalStatus why ↔ (length line ≡ 20) × (allDigits line ≡ true) × RefusedDivide why (rawIn line))
+      × (answerOf line .status ≡ refusalStatus why → answerOf line ≡ refusal why (rawIn line))
+  line-demand-1 why = (
+    (λ e. let h = read why e in (h .0, h .1, refused e), λ h. ap (λ (a : Answer). a .status) (as-asked (h .0) (h .1)) ∙ demand-1 why (rawIn line) .0 .1 (h .2)),
+    λ e. let h = read why e in as-asked (h .0) (h .1) ∙ demand-1 why (rawIn line) .1 (refused e),
   )
     where
-      read : answerOf line .status ≡ 6 → (length line ≡ 20) × (allDigits line ≡ true)
-      read e = let g = line-statuses 6 .0 e in (eqb-true (length line) 20 (not-false (eqb (length line) 20) (g .0)), not-false (allDigits line) (g .1 .0))
-
-      refused : answerOf line .status ≡ 6 → RefusedDivide (rawIn line)
-      refused e = let h = read e in demand-1 (rawIn line) .0 .0 (ap (λ (a : Answer). a .status) (sym (as-asked (h .0) (h .1))) ∙ e)
+      refused : answerOf line .status ≡ refusalStatus why → RefusedDivide why (rawIn line)
+      refused e = let h = read why e in demand-1 why (rawIn line) .0 .0 (ap (λ (a : Answer). a .status) (sym (as-asked (h .0) (h .1))) ∙ e)
 
   -- rows 1 and 2 in other words
   pub status-1 : answerOf line .status ≡ 1 ↔ (length line ≡ 20 → ⊥)

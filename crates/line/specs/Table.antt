@@ -1,4 +1,4 @@
--- The whole table of statuses, of a line and the room for its answer: its rows in their order 7, 1, 2, 3, 4, 5, 6. Assumes nothing.
+-- The whole table of statuses, of a line and the room for its answer: its rows in their order 7, 1, 2, 3, 4, 5, 6, 8, 9. Assumes nothing.
 use mathlib.Core.Bool.{Bool, not}
 use mathlib.Core.List.{List, _∷_}
 use Prim.Native.Nat.{ℕ}

@@ -37,12 +37,13 @@ returns c =
 
 returns-2 : tie.Need-returns-2
 returns-2 c =
-    let at = c .before .before in
-    refuses 16 (pre-at (at .before .before)) (cord-at at) _ (ap cordOutcome16 (c .enum-told .given .1))
+    let told = c .before in
+    let at = told .before .before in
+    refuses 16 (pre-at (at .before .before)) (cord-at at) _ (ap cordOutcome16 (told .enum-told .given .1)) (c .first-refusal .ensures)
 
 pub signed-div16-spec : {M : Type 1} → statement M
 signed-div16-spec =
     tie.close
     (tie.spec (λ c. search needs) (λ c. search needs) (λ c κs. search needs) (λ c. omega (arith, few-pre (c .before)))
     (λ c κs. omega (arith, few-pre (c .before))) (λ c. search needs) (λ c. omega (arith, few-cord (c .before .before)))
-    (λ c κs. omega (arith, few-cord (c .before .before))) (λ c κs. search needs) (λ c κs. search needs) (λ c. search needs) returns returns-2)
+    (λ c κs. omega (arith, few-cord (c .before .before))) (λ c κs. search needs) (λ c κs. search needs) (λ c. search needs) (λ c. search needs) returns returns-2)

@@ -29,10 +29,10 @@ returns c =
     unsigned-accepted 8 _ _ _ _ (cord-at (at .before .before)) (omega arith) (accepted-at at) (c .before .compare-flags8 .ensures)
 
 returns-2 : tie.Need-returns-2
-returns-2 c = unsigned-refused 8 _ _ _ _ (cord-at (c .before .before)) (ap cordOutcome8 (c .enum-told .given .1))
+returns-2 c = let at = c .before in unsigned-refused 8 _ _ _ _ (cord-at (at .before .before)) (ap cordOutcome8 (at .enum-told .given .1)) (c .first-refusal .ensures)
 
 pub unsigned-div8-spec : {M : Type 1} → statement M
 unsigned-div8-spec =
     tie.close
-    (tie.spec (λ c. search needs) (λ c. search needs) (λ c κs. search needs) (λ c. search needs) (λ c κs. search needs) few-cord (λ c. search needs) returns
-    returns-2)
+    (tie.spec (λ c. search needs) (λ c. search needs) (λ c κs. search needs) (λ c. search needs) (λ c κs. search needs) few-cord (λ c. search needs)
+    (λ c. search needs) returns returns-2)
