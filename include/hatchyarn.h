@@ -18,17 +18,36 @@
 extern "C" {
 #endif
 
-/* How a request was answered. */
+/*
+ * How a request was answered. 7 is tested first, then 1 to 6, 8 and 9; the first that applies is given.
+ *
+ * 6, 8 and 9 tell why a divide is refused, as the chip traps. N is the divisor's width, 8 or 16; a
+ * quotient's magnitude is the quotient without its sign. They exclude each other, and an
+ * unsigned divide never gets 9.
+ */
 enum hatchyarn_status {
-    HATCHYARN_DONE = 0,           /* answered as below */
-    HATCHYARN_BAD_LENGTH = 1,     /* the line is not 20 bytes long */
-    HATCHYARN_BAD_DIGIT = 2,      /* a byte of the line is no hexadecimal digit */
-    HATCHYARN_BAD_OP = 3,         /* the op is not listed */
-    HATCHYARN_BAD_MODE = 4,       /* the mode does not fit the op */
-    HATCHYARN_TOO_LARGE = 5,      /* X or Y is too large, or a bit of the flags word is no flag */
-    HATCHYARN_DIVIDE_REFUSED = 6, /* the chip traps: the divisor is 0 or the quotient does not fit */
-    HATCHYARN_NO_ROOM = 7         /* there is no room for an answer, and nothing was written */
+    HATCHYARN_DONE = 0,         /* answered as below */
+    HATCHYARN_BAD_LENGTH = 1,   /* the line is not 20 bytes long */
+    HATCHYARN_BAD_DIGIT = 2,    /* a byte of the line is no hexadecimal digit */
+    HATCHYARN_BAD_OP = 3,       /* the op is not listed */
+    HATCHYARN_BAD_MODE = 4,     /* the mode does not fit the op */
+    HATCHYARN_TOO_LARGE = 5,    /* X or Y is too large, or a bit of the flags word is no flag */
+    HATCHYARN_ZERO_DIVISOR = 6, /* the divisor is 0, as a community's number is until it is set */
+    HATCHYARN_NO_ROOM = 7,      /* there is no room for an answer, and nothing was written */
+    HATCHYARN_TOO_WIDE = 8,     /* the quotient's magnitude is 2^N or more, too wide for N bits */
+    HATCHYARN_SIGN_RANGE = 9    /* signed, and the quotient's magnitude is from 2^(N-1) to 2^N - 1: it does
+                                   not fit with its sign */
 };
+
+/*
+ * Whether a status is that of a refused divide: true of exactly 6, 8 and 9. Ask with it whether something
+ * is closed, and never of one status alone. All three are closed; which of them it is tells only why.
+ */
+static inline bool hatchyarn_divide_refused(uint8_t status)
+{
+    return status == HATCHYARN_ZERO_DIVISOR || status == HATCHYARN_TOO_WIDE
+           || status == HATCHYARN_SIGN_RANGE;
+}
 
 /* What to do. */
 enum hatchyarn_op {
@@ -84,8 +103,9 @@ enum hatchyarn_flag {
  * So ADD to SHL_AF are what the chip's ALU does and not whole instructions: the flags P, Z and S of a
  * sum or a shift are left to the caller. They count no steps, and neither do DAA and DAS.
  *
- * After the statuses 3 to 5 all of it is 0. After HATCHYARN_DIVIDE_REFUSED
- * the flags are those handed in, the steps are those up to the trap, and r and s are 0. */
+ * After the statuses 3 to 5 all of it is 0. After a refused divide, whichever of HATCHYARN_ZERO_DIVISOR,
+ * HATCHYARN_TOO_WIDE and HATCHYARN_SIGN_RANGE it is, the flags are those handed in, the steps are those up
+ * to the trap, and r and s are 0. */
 struct hatchyarn_answer {
     uint16_t flags;
     uint16_t steps; /* of the microcode */
@@ -102,8 +122,8 @@ struct hatchyarn_answer {
  * dividend has twice the width, AX has 16 bits, and counts and AAD's byte have 8. Signed numbers are
  * two's complement.
  *
- * Returns HATCHYARN_DONE or one of HATCHYARN_BAD_OP to HATCHYARN_DIVIDE_REFUSED; *answer is written
- * whichever it is.
+ * Returns HATCHYARN_DONE, or HATCHYARN_BAD_OP, HATCHYARN_BAD_MODE or HATCHYARN_TOO_LARGE, or of a divide
+ * one that hatchyarn_divide_refused is true of; *answer is written whichever it is.
  */
 uint8_t hatchyarn_ask(uint8_t op, uint8_t mode, uint16_t flags, uint32_t x, uint16_t y,
                       struct hatchyarn_answer *answer);
