@@ -16,7 +16,25 @@ static void expect(bool held, const char *what)
 }
 
 static const char *const session = "11000000000000070002\n110200000000FF800001";
-static const char *const answers = "000001005100030001\n060000005F00000000\n";
+static const char *const answers = "000001005100030001\n090000005F00000000\n";
+
+/* Refused divides, with all flags handed in: of each width, signed and not, and under REP. */
+static const struct refused {
+    const char *line, *answer;
+    uint32_t dividend;
+    uint16_t divisor, steps;
+    uint8_t mode, status;
+} refused[] = {
+    {"110008D5000000070000", "0608D5000900000000\n", 0x0007, 0, 9, 0x00, HATCHYARN_ZERO_DIVISOR},
+    {"110208D5000000070000", "0608D5001300000000\n", 0x0007, 0, 19, 0x02, HATCHYARN_ZERO_DIVISOR},
+    {"110708D5000000070000", "0608D5001300000000\n", 0x0007, 0, 19, 0x07, HATCHYARN_ZERO_DIVISOR},
+    {"110008D5000001000001", "0808D5000900000000\n", 0x0100, 1, 9, 0x00, HATCHYARN_TOO_WIDE},
+    {"110208D500007FFF0001", "0808D5001300000000\n", 0x7FFF, 1, 19, 0x02, HATCHYARN_TOO_WIDE},
+    {"110508D5000200000002", "0808D5000900000000\n", 0x20000, 2, 9, 0x05, HATCHYARN_TOO_WIDE},
+    {"110208D50000FF800001", "0908D5005F00000000\n", 0xFF80, 1, 95, 0x02, HATCHYARN_SIGN_RANGE},
+    {"110708D5000080000001", "0908D5009B00000000\n", 0x8000, 1, 155, 0x07, HATCHYARN_SIGN_RANGE},
+};
+enum { REFUSED = sizeof refused / sizeof *refused };
 
 static bool is(const struct hatchyarn_answer *a, unsigned flags, unsigned steps, unsigned r, unsigned s)
 {
@@ -33,7 +51,7 @@ static void asks(void)
     expect(hatchyarn_ask(HATCHYARN_OP_DIVIDE, signed8, 0, 0xFF81, 1, &a) == HATCHYARN_DONE
                && a.steps == 111 && a.r == 0x81 && a.s == 0, "FF81 / 01, signed");
     expect(hatchyarn_ask(HATCHYARN_OP_DIVIDE, signed8, HATCHYARN_FLAG_Z, 0xFF80, 1, &a)
-                   == HATCHYARN_DIVIDE_REFUSED
+                   == HATCHYARN_SIGN_RANGE
                && is(&a, HATCHYARN_FLAG_Z, 95, 0, 0), "FF80 / 01, signed");
     expect(hatchyarn_ask(HATCHYARN_OP_MULTIPLY, HATCHYARN_MODE_WORD, 0, 0xFFFF, 0xFFFF, &a)
                    == HATCHYARN_DONE
@@ -88,11 +106,42 @@ static void runs(void)
     expect(hatchyarn_run(text, length, NULL, 0, true, &used) == 0 && used == 0, "a run with room at no place");
 }
 
+/* Each refused divide by each function: as numbers, as a line, and all of them in one run. */
+static void refusals(void)
+{
+    const uint16_t all = 0x08D5;
+    char text[REFUSED * 21 + 1] = "", wanted[REFUSED * HATCHYARN_ANSWER_BYTES + 1] = "";
+    uint8_t out[REFUSED * HATCHYARN_ANSWER_BYTES];
+    size_t used;
+
+    for (const struct refused *each = refused; each < refused + REFUSED; each++) {
+        struct hatchyarn_answer a;
+        expect(hatchyarn_ask(HATCHYARN_OP_DIVIDE, each->mode, all, each->dividend, each->divisor, &a) == each->status
+                   && is(&a, all, each->steps, 0, 0), each->line);
+        expect(hatchyarn_line((const uint8_t *)each->line, 20, out, sizeof out) == each->status
+                   && memcmp(out, each->answer, HATCHYARN_ANSWER_BYTES) == 0, each->line);
+        strcat(strcat(text, each->line), "\n");
+        strcat(wanted, each->answer);
+    }
+    expect(hatchyarn_run((const uint8_t *)text, strlen(text), out, sizeof out, true, &used) == REFUSED
+               && used == strlen(text) && memcmp(out, wanted, sizeof out) == 0, "a run over refused divides");
+}
+
+/* The header's own test, of every number that a status can be. */
+static void closed(void)
+{
+    for (unsigned status = 0; status <= UINT8_MAX; status++)
+        expect(hatchyarn_divide_refused((uint8_t)status) == (status == 6 || status == 8 || status == 9),
+               "hatchyarn_divide_refused is not true of exactly 6, 8 and 9");
+}
+
 int main(void)
 {
     asks();
     lines();
     runs();
+    refusals();
+    closed();
     if (!failed)
         puts("calls: ok");
     return failed;
