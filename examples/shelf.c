@@ -1,10 +1,10 @@
 /*
  * shelf: where an object stands, by the rule of a rights program of the 1980s.
  *
- *   shelf KEY NUMBER      both hexadecimal: a key of 16 bits, a community's number of 8
+ *   shelf [--why] KEY NUMBER      both hexadecimal: a key of 16 bits, a community's number of 8
  *
  * The key is divided by the number, signed, as an 8088 divides. The quotient is the shelf and the
- * remainder names the keeper. Where the chip traps, the object is closed.
+ * remainder names the keeper. Where the chip traps, the object is closed; --why also says why it is.
  */
 #include <hatchyarn.h>
 #include <stdio.h>
@@ -19,18 +19,32 @@ static bool number(const char *text, size_t most, unsigned long *value)
     return digits > 0 && digits <= most && text[digits] == '\0';
 }
 
+/* Why the object is closed, by the status of the refused divide; the third is HATCHYARN_SIGN_RANGE. */
+static const char *reason(uint8_t status)
+{
+    if (status == HATCHYARN_ZERO_DIVISOR)
+        return "the number is 0";
+    if (status == HATCHYARN_TOO_WIDE)
+        return "the key is too large for the number";
+    return "the key is too large for the number, since a shelf has a sign";
+}
+
 int main(int argc, char **argv)
 {
     unsigned long key, divisor;
     struct hatchyarn_answer answer;
+    bool why = argc > 1 && strcmp(argv[1], "--why") == 0;
+    char **words = argv + 1 + why;
 
-    if (argc != 3 || !number(argv[1], 4, &key) || !number(argv[2], 2, &divisor)) {
-        fprintf(stderr, "use: shelf KEY NUMBER, of 1 to 4 and of 1 or 2 hexadecimal digits\n");
+    if (argc - why != 3 || !number(words[0], 4, &key) || !number(words[1], 2, &divisor)) {
+        fprintf(stderr, "use: shelf [--why] KEY NUMBER, of 1 to 4 and of 1 or 2 hexadecimal digits\n");
         return 2;
     }
     uint8_t status = hatchyarn_ask(HATCHYARN_OP_DIVIDE, HATCHYARN_MODE_BYTE | HATCHYARN_MODE_SIGNED,
                                    0, (uint32_t)key, (uint16_t)divisor, &answer);
-    if (status == HATCHYARN_DIVIDE_REFUSED)
+    if (hatchyarn_divide_refused(status) && why)
+        printf("closed: %s\n", reason(status));
+    else if (hatchyarn_divide_refused(status))
         puts("closed");
     else if (status == HATCHYARN_DONE)
         printf("shelf %02X, keeper %02X\n", answer.r, answer.s);

@@ -1,7 +1,9 @@
 #!/usr/bin/env python3
 """shelf: where an object stands, as shelf.c says it, from Python.
 
-  python3 shelf.py KEY NUMBER      both hexadecimal: a key of 16 bits, a community's number of 8
+  python3 shelf.py [--why] KEY NUMBER      both hexadecimal: a key of 16 bits, a community's number of 8
+
+Where the chip refuses the divide the object is closed; --why also says why it is.
 
 Calls libhatchyarn.so, made as README.md says under 'Other languages', in the folder that
 HATCHYARN_LIB_DIR names or else in the one that this is started from.
@@ -14,7 +16,15 @@ import sys
 # of hatchyarn.h: hatchyarn_op, hatchyarn_mode, hatchyarn_status
 OP_DIVIDE = 0x11
 MODE_SIGNED = 0x02
-DONE, DIVIDE_REFUSED = 0, 6
+DONE, ZERO_DIVISOR, TOO_WIDE, SIGN_RANGE = 0, 6, 8, 9
+
+# Why the object is closed, by the status of the refused divide. It is closed whichever of them it is, as
+# hatchyarn_divide_refused says it in hatchyarn.h.
+REASONS = {
+    ZERO_DIVISOR: 'the number is 0',
+    TOO_WIDE: 'the key is too large for the number',
+    SIGN_RANGE: 'the key is too large for the number, since a shelf has a sign',
+}
 
 
 class Answer(ctypes.Structure):
@@ -42,21 +52,30 @@ def failed(words, status):
     return status
 
 
+def told(status, answer, why):
+    """What the divide says of the object."""
+    if status == DONE:
+        return f'shelf {answer.r:02X}, keeper {answer.s:02X}'
+    return f'closed: {REASONS[status]}' if why else 'closed'
+
+
 def main(words):
-    key, divisor = (number(words[0], 4), number(words[1], 2)) if len(words) == 2 else (None, None)
+    why = words[:1] == ['--why']
+    numbers = words[1:] if why else words
+    key, divisor = (number(numbers[0], 4), number(numbers[1], 2)) if len(numbers) == 2 else (None, None)
     if key is None or divisor is None:
-        return failed('use: shelf KEY NUMBER, of 1 to 4 and of 1 or 2 hexadecimal digits', 2)
+        return failed('use: shelf [--why] KEY NUMBER, of 1 to 4 and of 1 or 2 hexadecimal digits', 2)
     try:
         ask = load()
     except OSError as error:
         return failed(f'shelf: the library cannot be loaded: {error}', 1)
     answer = Answer()
     status = ask(OP_DIVIDE, MODE_SIGNED, 0, key, divisor, ctypes.byref(answer))
-    if status not in (DONE, DIVIDE_REFUSED):
+    if status != DONE and status not in REASONS:
         return failed(f'shelf: the request was refused with status {status}', 1)
     try:
         with open(1, 'w', closefd=False) as out:
-            print('closed' if status == DIVIDE_REFUSED else f'shelf {answer.r:02X}, keeper {answer.s:02X}', file=out)
+            print(told(status, answer, why), file=out)
     except OSError as error:
         return failed(f'shelf: standard output: {error.strerror}', 1)
     return 0
