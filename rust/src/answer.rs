@@ -32,8 +32,10 @@ pub enum Refusal {
     Mode,
     /// Status 5: X or Y is too large, or a bit of the flags word is no flag.
     TooLarge,
-    /// Status 6: the chip traps, since the divisor is 0 or the quotient does not fit.
+    /// The chip traps: status 6, 8 or 9, as `why` says. One arm is closed for all of them.
     Divide {
+        /// Which of the three it is.
+        why: DivideRefusal,
         /// Those handed in.
         flags: Flags,
         /// The steps up to the refusal.
@@ -52,7 +54,7 @@ impl Refusal {
             Refusal::Operation => 3,
             Refusal::Mode => 4,
             Refusal::TooLarge => 5,
-            Refusal::Divide { .. } => 6,
+            Refusal::Divide { why, .. } => why.status(),
             Refusal::Room => 7,
         }
     }
@@ -66,8 +68,8 @@ impl fmt::Display for Refusal {
             Refusal::Operation => "the op is not listed",
             Refusal::Mode => "the mode does not fit the op",
             Refusal::TooLarge => "X or Y is too large, or a bit of the flags word is no flag",
-            Refusal::Divide { .. } => {
-                "the divide is refused: the divisor is 0 or the quotient does not fit"
+            Refusal::Divide { why, .. } => {
+                return out.pad(&format!("the divide is refused: {why}"))
             }
             Refusal::Room => "there is no room for an answer of 19 bytes",
         })
@@ -75,6 +77,73 @@ impl fmt::Display for Refusal {
 }
 
 impl Error for Refusal {}
+
+/// Why a divide is refused. N is the divisor's width, 8 or 16; a quotient's magnitude is the
+/// quotient without its sign. The three are tested in this order and exclude each other. An
+/// unsigned divide is never refused for its sign range, and REP changes no refusal.
+///
+/// It may grow, as [`Refusal`] may: who says why has a last arm, and is closed there too.
+///
+/// A desk divides an object's key by a community's number. One arm is closed, whatever the reason,
+/// and the reason tells a number that nobody has set from a key that is too large:
+///
+/// ```
+/// use hatchyarn::{DivideRefusal, Flags, Operation, Refusal};
+///
+/// fn desk(key: u16, number: u8) -> String {
+///     let divide = Operation::Divide8 { dividend: key, divisor: number, signed: true, rep: false };
+///     match divide.ask(Flags::NONE) {
+///         Ok(answer) => format!("shelf {:02X}", answer.r),
+///         Err(Refusal::Divide { why, .. }) => format!("closed{}", reason(why)),
+///         Err(refusal) => format!("not asked: {refusal}"),
+///     }
+/// }
+///
+/// fn reason(why: DivideRefusal) -> &'static str {
+///     match why {
+///         DivideRefusal::ZeroDivisor => ": the number is not set",
+///         DivideRefusal::TooWide | DivideRefusal::SignRange => ": the key is too large",
+///         _ => "",
+///     }
+/// }
+///
+/// assert_eq!(desk(0x0007, 0x00), "closed: the number is not set");
+/// assert_eq!(desk(0x7FFF, 0x01), "closed: the key is too large"); // 32767, above 255
+/// assert_eq!(desk(0xFF80, 0x01), "closed: the key is too large"); // -128, below -127
+/// assert_eq!(desk(0xFF81, 0x01), "shelf 81");
+/// ```
+#[derive(Clone, Copy, Debug, PartialEq, Eq, Hash)]
+#[non_exhaustive]
+pub enum DivideRefusal {
+    /// Status 6: the divisor is 0.
+    ZeroDivisor,
+    /// Status 8: the quotient's magnitude is 2^N or more, too wide for N bits.
+    TooWide,
+    /// Status 9: signed, and the quotient's magnitude is from 2^(N-1) to 2^N - 1, so that it does
+    /// not fit with its sign.
+    SignRange,
+}
+
+impl DivideRefusal {
+    /// The number that an answer line has for it.
+    pub fn status(self) -> u8 {
+        match self {
+            DivideRefusal::ZeroDivisor => 6,
+            DivideRefusal::TooWide => 8,
+            DivideRefusal::SignRange => 9,
+        }
+    }
+}
+
+impl fmt::Display for DivideRefusal {
+    fn fmt(&self, out: &mut fmt::Formatter) -> fmt::Result {
+        out.pad(match self {
+            DivideRefusal::ZeroDivisor => "the divisor is 0",
+            DivideRefusal::TooWide => "the quotient is too wide for the divisor's bits",
+            DivideRefusal::SignRange => "the quotient does not fit with its sign",
+        })
+    }
+}
 
 impl Numbers {
     /// The answer, or which refusal it is.
@@ -86,10 +155,12 @@ impl Numbers {
     /// ```
     pub fn result(self) -> Result<Answer, Refusal> {
         let flags = Flags::among(self.flags);
+        let steps = self.steps;
+        let refused = |why| Refusal::Divide { why, flags, steps };
         match self.status {
             0 => Ok(Answer {
                 flags,
-                steps: self.steps,
+                steps,
                 r: self.r,
                 s: self.s,
             }),
@@ -98,11 +169,10 @@ impl Numbers {
             3 => Err(Refusal::Operation),
             4 => Err(Refusal::Mode),
             5 => Err(Refusal::TooLarge),
-            6 => Err(Refusal::Divide {
-                flags,
-                steps: self.steps,
-            }),
+            6 => Err(refused(DivideRefusal::ZeroDivisor)),
             7 => Err(Refusal::Room),
+            8 => Err(refused(DivideRefusal::TooWide)),
+            9 => Err(refused(DivideRefusal::SignRange)),
             other => unreachable!("the library has no status {other}"),
         }
     }

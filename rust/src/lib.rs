@@ -18,15 +18,16 @@
 //! # Ok::<(), hatchyarn::Refusal>(())
 //! ```
 //!
-//! A divide that the chip traps is a [`Refusal`]. This one would have the quotient -128:
+//! A divide that the chip traps is a [`Refusal`] and says why. This one would have the quotient -128:
 //!
 //! ```
-//! use hatchyarn::{Flags, Operation, Refusal};
+//! use hatchyarn::{DivideRefusal, Flags, Operation, Refusal};
 //!
 //! let divide = Operation::Divide8 { dividend: 0xFF80, divisor: 0x01, signed: true, rep: false };
 //! let refusal = divide.ask(Flags::CARRY).unwrap_err();
-//! assert_eq!(refusal, Refusal::Divide { flags: Flags::CARRY, steps: 95 });
-//! println!("closed: {refusal}");
+//! let why = DivideRefusal::SignRange;
+//! assert_eq!(refusal, Refusal::Divide { why, flags: Flags::CARRY, steps: 95 });
+//! assert_eq!(refusal.to_string(), "the divide is refused: the quotient does not fit with its sign");
 //! ```
 //!
 //! Requests that come as text are answered line by line ([`answer_line`]) or as a whole
@@ -38,7 +39,7 @@ mod lines;
 mod operation;
 pub mod raw;
 
-pub use answer::{Answer, Refusal};
+pub use answer::{Answer, DivideRefusal, Refusal};
 pub use flags::Flags;
 pub use lines::{answer_all, answer_line, ANSWER_BYTES};
 pub use operation::{Adjust, Operation, Shift, Sum};

@@ -7,7 +7,8 @@
 /// What [`ask`] answers.
 #[derive(Clone, Copy, Debug, PartialEq, Eq, Hash)]
 pub struct Numbers {
-    /// 0 where the request was answered, 3 to 6 where it was refused.
+    /// 0 where the request was answered; 3, 4 or 5 where it is no request of the chip; 6, 8 or 9 where
+    /// the chip refuses the divide.
     pub status: u8,
     pub flags: u16,
     pub steps: u16,
@@ -40,7 +41,7 @@ mod linked {
     }
 }
 
-/// Answers a request given as numbers: the table of statuses from 3 on.
+/// Answers a request given as numbers. Statuses 1, 2 and 7 are those of lines, and none is given here.
 pub fn ask(op: u8, mode: u8, flags: u16, x: u32, y: u16) -> Numbers {
     let mut answer = [0; 4];
     // SAFETY: the function writes four numbers, and there is room for four.

@@ -1,6 +1,7 @@
 //! Requests made from types: the examples of the scope, and each operation beside its line.
 
-use hatchyarn::{answer_line, raw, Adjust, Flags, Operation, Refusal, Shift, Sum};
+use hatchyarn::raw::Numbers;
+use hatchyarn::{answer_line, raw, Adjust, DivideRefusal, Flags, Operation, Refusal, Shift, Sum};
 
 /// Every kind of operation, and none of them a trap.
 const EACH: [Operation; 27] = [
@@ -113,22 +114,148 @@ fn the_examples_of_the_scope() {
     assert_eq!(r(Operation::Adjust(Adjust::Aaa, 0x00FA), none).0, 0x0100);
 }
 
-#[test]
-fn a_trap_is_a_refusal_with_the_flags_handed_in() {
-    for signed in [false, true] {
-        let divide = Operation::Divide16 {
-            dividend: 5,
-            divisor: 0,
-            signed,
-            rep: false,
-        };
-        match divide.ask(Flags::ALL) {
-            Err(Refusal::Divide { flags, steps }) => {
-                assert_eq!(flags, Flags::ALL);
-                assert!(steps > 0);
-            }
-            other => panic!("a division by 0 gave {other:?}"),
+/// What a divide is asked with besides its operands.
+#[derive(Clone, Copy)]
+struct Kind {
+    bits: u32,
+    signed: bool,
+    rep: bool,
+}
+
+/// Both widths, signed and not, under REP and not.
+fn kinds() -> impl Iterator<Item = Kind> {
+    (0..8).map(|n| Kind {
+        bits: if n & 1 == 0 { 8 } else { 16 },
+        signed: n & 2 != 0,
+        rep: n & 4 != 0,
+    })
+}
+
+impl Kind {
+    /// The divide whose operands stand for these numbers.
+    fn divide(self, dividend: i64, divisor: i64) -> Operation {
+        let Kind { bits, signed, rep } = self;
+        match bits {
+            8 => Operation::Divide8 {
+                dividend: dividend as u16,
+                divisor: divisor as u8,
+                signed,
+                rep,
+            },
+            _ => Operation::Divide16 {
+                dividend: dividend as u32,
+                divisor: divisor as u16,
+                signed,
+                rep,
+            },
         }
+    }
+
+    /// The steps up to the trap, by docs/CHARTS.md. No bit is shifted out by the divisors used here.
+    fn steps(self, dividend: i64, divisor: i64, why: DivideRefusal) -> u16 {
+        let of_signs = if dividend < 0 { 7 } else { 3 } + if divisor < 0 { 5 } else { 6 };
+        let steps = match why {
+            DivideRefusal::SignRange => {
+                let quotient = (dividend / divisor).unsigned_abs();
+                let of_quotient = quotient.count_ones() + if quotient % 2 == 1 { 2 } else { 0 };
+                11 + of_signs + 6 + 8 * self.bits + of_quotient
+            }
+            _ if self.signed => 10 + of_signs,
+            _ => 9,
+        };
+        steps as u16
+    }
+
+    /// The divide is refused for this reason, with the flags handed in, and so is its line.
+    fn is_refused(self, dividend: i64, divisor: i64, why: DivideRefusal) {
+        let divide = self.divide(dividend, divisor);
+        let steps = self.steps(dividend, divisor, why);
+        for flags in [Flags::NONE, Flags::ALL] {
+            let refusal = Refusal::Divide { why, flags, steps };
+            assert_eq!(divide.ask(flags), Err(refusal), "{divide:?}");
+            let (op, mode, x, y) = divide.numbers();
+            let word = flags.word();
+            let line = format!("{op:02X}{mode:02X}{word:04X}{x:08X}{y:04X}");
+            let written = format!("{:02X}{word:04X}{steps:04X}00000000\n", why.status());
+            assert_eq!(answer_line(line.as_bytes()), written.as_bytes(), "{line}");
+        }
+    }
+}
+
+#[test]
+fn a_divisor_of_0_is_told_from_all_else() {
+    for kind in kinds() {
+        for dividend in [0, 1, (1 << kind.bits) - 1, 1 << kind.bits] {
+            kind.is_refused(dividend, 0, DivideRefusal::ZeroDivisor);
+        }
+        if kind.signed {
+            kind.is_refused(-1, 0, DivideRefusal::ZeroDivisor);
+        }
+    }
+}
+
+/// A dividend and a divisor for a quotient of this magnitude: of each sign if signed, and with nothing left
+/// over as well as with as much as can be.
+fn operands(kind: Kind, magnitude: i64) -> Vec<(i64, i64)> {
+    let signs: &[(i64, i64)] = match kind.signed {
+        false => &[(1, 1)],
+        true => &[(1, 1), (1, -1), (-1, 1), (-1, -1)],
+    };
+    let mut made = Vec::new();
+    for divisor in [1, 2, 5, (1 << (kind.bits - 1)) - 1] {
+        for left_over in [0, divisor - 1] {
+            let dividend = magnitude * divisor + left_over;
+            made.extend(signs.iter().map(|(a, b)| (a * dividend, b * divisor)));
+        }
+    }
+    made
+}
+
+#[test]
+fn a_quotient_is_refused_from_its_border_on() {
+    for kind in kinds() {
+        let half = 1 << (kind.bits - 1);
+        let sign_range = kind.signed.then_some(DivideRefusal::SignRange);
+        let borders = [
+            (half - 1, None),
+            (half, sign_range),
+            (2 * half - 1, sign_range),
+            (2 * half, Some(DivideRefusal::TooWide)),
+        ];
+        for (magnitude, wanted) in borders {
+            for (dividend, divisor) in operands(kind, magnitude) {
+                match wanted {
+                    Some(why) => kind.is_refused(dividend, divisor, why),
+                    None => assert!(kind.divide(dividend, divisor).ask(Flags::ALL).is_ok()),
+                }
+            }
+        }
+    }
+}
+
+#[test]
+fn a_refused_divide_says_why() {
+    let refusal = |why| Refusal::Divide {
+        why,
+        flags: Flags::NONE,
+        steps: 9,
+    };
+    let said = [
+        (DivideRefusal::ZeroDivisor, "the divisor is 0"),
+        (
+            DivideRefusal::TooWide,
+            "the quotient is too wide for the divisor's bits",
+        ),
+        (
+            DivideRefusal::SignRange,
+            "the quotient does not fit with its sign",
+        ),
+    ];
+    for (why, words) in said {
+        assert_eq!(why.to_string(), words);
+        let sentence = format!("the divide is refused: {words}");
+        assert_eq!(refusal(why).to_string(), sentence);
+        assert_eq!(format!("{:80}|", refusal(why)), format!("{sentence:80}|"));
     }
 }
 
@@ -140,6 +267,22 @@ fn numbers_from_elsewhere_are_refused_by_name() {
     assert_eq!(result(0x00, 0, 0, 0x100, 0), Refusal::TooLarge);
     assert_eq!(result(0x00, 0, 2, 0, 0), Refusal::TooLarge);
     assert_eq!(result(0x11, 0, 0, 0, 0).status(), 6);
+    assert_eq!(result(0x11, 0, 0, 0x100, 1).status(), 8);
+    assert_eq!(result(0x11, 2, 0, 0x80, 1).status(), 9);
+}
+
+#[test]
+fn each_status_has_a_refusal_of_its_own() {
+    for status in 1..=9 {
+        let numbers = Numbers {
+            status,
+            flags: 0,
+            steps: 0,
+            r: 0,
+            s: 0,
+        };
+        assert_eq!(numbers.result().map_err(Refusal::status), Err(status));
+    }
 }
 
 #[test]
