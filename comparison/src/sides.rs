@@ -3,6 +3,7 @@
 use crate::asked::Asked;
 use hatchyarn::raw;
 pub use hatchyarn::raw::Numbers;
+use oracle::Refused;
 
 /// A side as a value, so that a test can put a wrong one in place of the port.
 pub type Side = fn(Asked) -> Numbers;
@@ -12,13 +13,14 @@ pub fn ours(asked: Asked) -> Numbers {
     raw::ask(asked.op, asked.mode, asked.flags, asked.x, asked.y)
 }
 
-/// MartyPC's Rust as it stands. It judges nothing, so statuses 3, 4 and 5 are the oracle's.
+/// MartyPC's Rust as it stands. It judges nothing, so statuses 3, 4 and 5 are the oracle's; and it has
+/// one refusal of a divide, so the oracle tells which of 6, 8 and 9 it is.
 pub fn theirs(asked: Asked) -> Numbers {
     match asked.judged() {
         Ok(request) => {
             let given = oracle::answer(&request);
             Numbers {
-                status: if given.refused { 6 } else { 0 },
+                status: given.status(),
                 flags: given.flags,
                 steps: given.steps,
                 r: given.r,
@@ -32,13 +34,13 @@ pub fn theirs(asked: Asked) -> Numbers {
 /// What the scope asks for: as the Rust, but for the intended differences.
 pub fn asked_for(asked: Asked) -> Numbers {
     let given = theirs(asked);
-    if given.status == 6 {
-        return Numbers {
+    match Refused::of_status(given.status) {
+        Some(_) => Numbers {
             flags: asked.flags,
             ..given
-        };
+        },
+        None => given,
     }
-    given
 }
 
 /// A status with zeros after it.

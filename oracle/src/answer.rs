@@ -5,6 +5,7 @@
 
 use crate::cpu_common::alu::*;
 use crate::hex;
+use crate::refusal::Refused;
 use crate::request::{Alu, Decimal, Mode, Operation, Request, Width};
 use crate::shim::{Flag, Intel808x};
 
@@ -14,8 +15,8 @@ pub const ANSWER_DIGITS: usize = 18;
 /// What MartyPC gives for one request.
 #[derive(Clone, Copy, Debug, PartialEq, Eq)]
 pub struct Answer {
-    /// The divide was refused. This is status 6; otherwise the status is 0.
-    pub refused: bool,
+    /// Why the divide was refused; nothing if there is a result.
+    pub refused: Option<Refused>,
     pub flags: u16,
     pub steps: u16,
     /// The result, quotient, AX or product; of a 16-bit product the upper half.
@@ -25,14 +26,19 @@ pub struct Answer {
 }
 
 impl Answer {
+    /// That of the refusal; 0 if there is none.
+    #[inline]
+    pub fn status(&self) -> u8 {
+        self.refused.map_or(0, Refused::status)
+    }
+
     /// The answer under the project's simplification: a refused divide gives
     /// back the flags handed in. The Rust writes some before it refuses.
     #[inline]
     pub fn with_refused_flags_handed_in(self, request: &Request) -> Answer {
-        let flags = if self.refused {
-            request.flags()
-        } else {
-            self.flags
+        let flags = match self.refused {
+            Some(_) => request.flags(),
+            None => self.flags,
         };
         Answer { flags, ..self }
     }
@@ -41,7 +47,7 @@ impl Answer {
     #[inline]
     pub fn to_line(&self) -> [u8; ANSWER_DIGITS + 1] {
         let mut line = [b'\n'; ANSWER_DIGITS + 1];
-        hex::write(if self.refused { 6 } else { 0 }, &mut line[0..2]);
+        hex::write(self.status().into(), &mut line[0..2]);
         hex::write(self.flags.into(), &mut line[2..6]);
         hex::write(self.steps.into(), &mut line[6..10]);
         hex::write(self.r.into(), &mut line[10..14]);
@@ -51,7 +57,7 @@ impl Answer {
 
     fn accepted(cpu: &Intel808x, r: u16, s: u16) -> Answer {
         Answer {
-            refused: false,
+            refused: None,
             flags: cpu.flags(),
             steps: cpu.steps(),
             r,
@@ -59,9 +65,9 @@ impl Answer {
         }
     }
 
-    fn refused(cpu: &Intel808x) -> Answer {
+    fn refused(cpu: &Intel808x, why: Refused) -> Answer {
         Answer {
-            refused: true,
+            refused: Some(why),
             ..Answer::accepted(cpu, 0, 0)
         }
     }
@@ -78,7 +84,7 @@ pub fn answer(request: &Request) -> Answer {
             leaf(alu, x as u16, y, y as u8, request.flags()).answer(request.flags())
         }
         Operation::Multiply(mode) => multiply(mode, request.flags(), x as u16, y),
-        Operation::Divide(mode) => divide(mode, request.flags(), x, y),
+        Operation::Divide(mode) => divide(mode, request),
         Operation::Decimal(decimal) => adjust(decimal, request.flags(), x as u16, y as u8),
     }
 }
@@ -107,7 +113,7 @@ impl Leaf {
     /// A leaf counts no steps, and flags it does not name stay.
     fn answer(self, handed_in: u16) -> Answer {
         Answer {
-            refused: false,
+            refused: None,
             flags: handed_in & !self.named | self.set,
             steps: 0,
             r: self.result,
@@ -172,8 +178,9 @@ fn multiply(mode: Mode, flags: u16, x: u16, y: u16) -> Answer {
     Answer::accepted(&cpu, r, s)
 }
 
-fn divide(mode: Mode, flags: u16, x: u32, y: u16) -> Answer {
-    let mut cpu = Intel808x::with(0, flags);
+fn divide(mode: Mode, request: &Request) -> Answer {
+    let (x, y) = (request.x(), request.y());
+    let mut cpu = Intel808x::with(0, request.flags());
     let quotient_and_remainder = match mode.width {
         Width::Byte => cpu
             .div8(x as u16, y as u8, mode.signed, mode.rep)
@@ -182,7 +189,7 @@ fn divide(mode: Mode, flags: u16, x: u32, y: u16) -> Answer {
     };
     match quotient_and_remainder {
         Ok((quotient, remainder)) => Answer::accepted(&cpu, quotient, remainder),
-        Err(_) => Answer::refused(&cpu),
+        Err(_) => Answer::refused(&cpu, Refused::of_refused(mode, request)),
     }
 }
 

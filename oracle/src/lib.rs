@@ -11,11 +11,13 @@ pub mod draw;
 pub mod edges;
 mod hex;
 pub mod malformed;
+pub mod refusal;
 pub mod request;
 pub mod session;
 pub mod shim;
 
 pub use answer::{answer, Answer};
+pub use refusal::Refused;
 pub use request::{Fault, Request};
 
 // MartyPC's files name this macro by the crate root.

@@ -1,7 +1,7 @@
 //! The marked examples of the project's scope, so that shim and placement are
 //! held to what the scope says and not to what they happen to give.
 
-use oracle::{answer, Request};
+use oracle::{answer, Refused, Request};
 
 const C: u16 = 0x0001;
 const A: u16 = 0x0010;
@@ -12,7 +12,7 @@ const O: u16 = 0x0800;
 struct Example {
     name: &'static str,
     request: &'static str,
-    refused: bool,
+    refused: Option<Refused>,
     r: u16,
     s: u16,
     steps: Option<u16>,
@@ -25,7 +25,7 @@ impl Example {
         Example {
             name,
             request,
-            refused: false,
+            refused: None,
             r,
             s,
             steps: None,
@@ -43,8 +43,8 @@ impl Example {
         self
     }
 
-    const fn refused(mut self) -> Example {
-        self.refused = true;
+    const fn refused(mut self, why: Refused) -> Example {
+        self.refused = Some(why);
         self
     }
 
@@ -98,7 +98,7 @@ fn divide() {
         Example::new("M9", "110200000000FF810001", 0x81, 0x00).steps(111),
         Example::new("M9 refused", "110200000000FF800001", 0, 0)
             .steps(95)
-            .refused(),
+            .refused(Refused::SignRange),
         Example::new("M10 by 2", "110200000000FFF90002", 0xFD, 0xFF).steps(106),
         Example::new("M10 by 3", "110200000000FFF50003", 0xFD, 0xFE).steps(106),
     ] {
