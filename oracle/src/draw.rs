@@ -93,18 +93,27 @@ impl Draw {
         match self.below(16) {
             0 => (self.pair(mode.width), 0),
             1 | 2 => (self.pair(mode.width), self.operand(mode.width) as u16),
-            _ => self.composed(mode).operands(mode),
+            _ => self.outcome(mode),
         }
     }
 
-    /// Half the quotients stand at the ends or middle of their range, one in
-    /// sixteen just past it.
+    /// The operands of an outcome. Where no dividend is so large, another is
+    /// drawn.
+    fn outcome(&mut self, mode: Mode) -> (u32, u16) {
+        loop {
+            if let Some(operands) = self.composed(mode).operands(mode) {
+                return operands;
+            }
+        }
+    }
+
+    /// Of sixteen quotients seven stand at the ends or middle of their range,
+    /// and one past it, where a refusal begins or ends.
     fn composed(&mut self, mode: Mode) -> Composed {
-        let ends = edges::quotients(mode);
-        let quotient = if self.coin() {
-            self.pick(&ends)
-        } else {
-            self.below(ends[ends.len() - 1])
+        let quotient = match self.below(16) {
+            0 => self.pick(edges::refused_quotients(mode)),
+            1..=7 => self.pick(&edges::quotients(mode)),
+            _ => self.below(edges::past(mode)),
         };
         let divisor = self.operand(mode.width).max(1) as u16;
         let bound = edges::magnitude(mode, divisor);

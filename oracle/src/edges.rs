@@ -32,7 +32,7 @@ const READ_FLAGS: [u16; 8] = [
 ];
 
 /// Enough where no flag is read: one set shows what is cleared, one what is set.
-const KEPT_FLAGS: [u16; 2] = [0x0000, ALL_FLAGS];
+pub(crate) const KEPT_FLAGS: [u16; 2] = [0x0000, ALL_FLAGS];
 
 /// The edges of a width.
 pub fn of(width: Width) -> &'static [u16] {
@@ -42,9 +42,11 @@ pub fn of(width: Width) -> &'static [u16] {
     }
 }
 
-/// A divide built from its outcome. Signs are read only in signed modes.
+/// A divide built from its outcome. Signs are read only in signed modes, and
+/// the lowest number of a width is negative whatever they say.
 #[derive(Clone, Copy, Debug)]
 pub struct Composed {
+    /// In signed modes its magnitude.
     pub quotient: u32,
     /// The divisor's bits; not 0. A signed divide takes their magnitude.
     pub divisor: u16,
@@ -55,11 +57,15 @@ pub struct Composed {
 }
 
 impl Composed {
-    /// The X and Y that give this outcome. The quotient may stand one past its
-    /// range; then X and Y make a divide that is refused by that one.
-    pub fn operands(self, mode: Mode) -> (u32, u16) {
+    /// The X and Y that give this outcome, or would if a quotient past its
+    /// range were not refused. Nothing if no dividend is so large.
+    pub fn operands(self, mode: Mode) -> Option<(u32, u16)> {
         let divisor = magnitude(mode, self.divisor);
-        let magnitude = self.quotient * divisor + self.remainder.min(divisor - 1);
+        let remainder = self.remainder.min(divisor - 1);
+        let dividend = u64::from(self.quotient) * u64::from(divisor) + u64::from(remainder);
+        if dividend > largest_dividend(mode) {
+            return None;
+        }
         let signed = |value: u32, negative: bool| {
             if mode.signed && negative {
                 value.wrapping_neg()
@@ -67,10 +73,33 @@ impl Composed {
                 value
             }
         };
-        let x = signed(magnitude, self.dividend_negative);
+        let x = signed(dividend as u32, self.dividend_negative);
         let y = signed(divisor, self.divisor_negative);
         let limits = Operation::Divide(mode);
-        (x & limits.x_limit(), y as u16 & limits.y_limit())
+        Some((x & limits.x_limit(), y as u16 & limits.y_limit()))
+    }
+
+    /// The operands with every pair of signs that the mode reads.
+    pub fn with_all_signs(self, mode: Mode) -> impl Iterator<Item = (u32, u16)> {
+        let pairs = if mode.signed { 4 } else { 1 };
+        (0..pairs).filter_map(move |signs| {
+            let signed = Composed {
+                dividend_negative: signs & 1 != 0,
+                divisor_negative: signs & 2 != 0,
+                ..self
+            };
+            signed.operands(mode)
+        })
+    }
+}
+
+/// In signed modes the magnitude of the lowest dividend.
+fn largest_dividend(mode: Mode) -> u64 {
+    let largest = u64::from(Operation::Divide(mode).x_limit());
+    if mode.signed {
+        largest / 2 + 1
+    } else {
+        largest
     }
 }
 
@@ -84,14 +113,30 @@ pub fn magnitude(mode: Mode, divisor: u16) -> u32 {
     }
 }
 
-/// Quotients at both ends and the middle of their range, the last one past it.
-pub fn quotients(mode: Mode) -> [u32; 8] {
-    let past = if mode.signed {
+/// The first quotient past the range; in signed modes its magnitude.
+pub fn past(mode: Mode) -> u32 {
+    if mode.signed {
         1 << (mode.width.bits() - 1)
     } else {
         1 << mode.width.bits()
-    };
-    [0, 1, 2, past / 2 - 1, past / 2, past - 2, past - 1, past]
+    }
+}
+
+/// Quotients at both ends and the middle of their range.
+pub fn quotients(mode: Mode) -> [u32; 7] {
+    let past = past(mode);
+    [0, 1, 2, past / 2 - 1, past / 2, past - 2, past - 1]
+}
+
+/// Quotients past the range: the first and the last for which a divide is
+/// refused for its sign range, and the first two that are too wide.
+pub fn refused_quotients(mode: Mode) -> &'static [u32] {
+    match (mode.width, mode.signed) {
+        (Width::Byte, false) => &[0x100, 0x101],
+        (Width::Byte, true) => &[0x80, 0xFF, 0x100, 0x101],
+        (Width::Word, false) => &[0x1_0000, 0x1_0001],
+        (Width::Word, true) => &[0x8000, 0xFFFF, 0x1_0000, 0x1_0001],
+    }
 }
 
 /// Hands over every combination of edge operands of one operation, in a fixed
@@ -113,18 +158,18 @@ pub fn each<E>(
 }
 
 fn each_composed<E>(mode: Mode, take: &mut impl FnMut(Request) -> Result<(), E>) -> Result<(), E> {
+    let quotients = [&quotients(mode), refused_quotients(mode)].concat();
     for &divisor in of(mode.width).iter().filter(|&&divisor| divisor != 0) {
-        for quotient in quotients(mode) {
+        for &quotient in &quotients {
             for remainder in [0, 1, u32::MAX] {
-                for signs in 0..if mode.signed { 4 } else { 1 } {
-                    let composed = Composed {
-                        quotient,
-                        divisor,
-                        remainder,
-                        dividend_negative: signs & 1 != 0,
-                        divisor_negative: signs & 2 != 0,
-                    };
-                    let (x, y) = composed.operands(mode);
+                let composed = Composed {
+                    quotient,
+                    divisor,
+                    remainder,
+                    dividend_negative: false,
+                    divisor_negative: false,
+                };
+                for (x, y) in composed.with_all_signs(mode) {
                     give(Operation::Divide(mode), &KEPT_FLAGS, x, y, take)?;
                 }
             }

@@ -7,6 +7,7 @@
 //! that has lines calls [`session::run`].
 
 pub mod answer;
+pub mod borders;
 pub mod draw;
 pub mod edges;
 mod hex;

@@ -3,6 +3,7 @@
 mod options;
 
 use options::Command;
+use oracle::borders;
 use oracle::draw::Draw;
 use oracle::edges;
 use oracle::malformed;
@@ -47,6 +48,7 @@ fn obey(command: Command) -> Result<(), Stop> {
             let input = BufReader::with_capacity(BUFFER, io::stdin().lock());
             return session::record(input, output).map(|_| ());
         }
+        Command::Borders => write_borders(&mut output),
         Command::Malformed => write_malformed(&mut output),
         Command::Draw {
             seed,
@@ -77,6 +79,12 @@ fn write_edges(output: &mut impl Write, operations: &[Operation]) -> io::Result<
     operations
         .iter()
         .try_for_each(|&operation| edges::each(operation, &mut take))
+}
+
+fn write_borders(output: &mut impl Write) -> io::Result<()> {
+    borders::requests()
+        .iter()
+        .try_for_each(|request| output.write_all(&request.to_line()))
 }
 
 fn write_malformed(output: &mut impl Write) -> io::Result<()> {

@@ -1,6 +1,7 @@
 //! Lines that are not admitted: every kind, each at its edge, and with the
 //! faults of later kinds beside it so that the order of judging shows.
 
+use crate::edges;
 use crate::request::{Fault, Operation, Request, ALL_FLAGS, REQUEST_DIGITS};
 
 /// A line that is admitted, to be spoilt in one place.
@@ -8,6 +9,9 @@ const SOUND: &[u8; REQUEST_DIGITS] = b"11000000000000070002";
 
 /// The neighbours of the digits' ranges, and what files are known to hold.
 const NO_DIGITS: &[u8] = b"/:@G`g +-.xX\t\r\0\x7F\x80\xFF";
+
+/// A bit of the flags word that is no flag.
+const NO_FLAG: u16 = 0x0002;
 
 /// All of them, each without its line feed.
 pub fn lines() -> Vec<Vec<u8>> {
@@ -69,6 +73,11 @@ fn ranges() -> impl Iterator<Item = Vec<u8>> {
         asked.extend(x.checked_add(1).map(|x| (0, x, 0)));
         asked.extend(y.checked_add(1).map(|y| (0, 0, y)));
         asked.extend([(0, u32::MAX, 0), (0, 0, u16::MAX)]);
+        // A divisor of 0 stands above; here are the other refusals of a divide.
+        if let Operation::Divide(mode) = operation {
+            let by_one = |&quotient: &u32| (NO_FLAG, quotient, 1);
+            asked.extend(edges::refused_quotients(mode).iter().map(by_one));
+        }
         let (op, mode) = operation.code();
         let refused = move |&(flags, x, y): &_| Request::new(operation, flags, x, y).is_err();
         asked

@@ -10,6 +10,7 @@ use:
   oracle answer [--refused-flags rust|handed-in] < requests > answers
   oracle make --seed N --count N [--op XX]... > requests
   oracle make --edges [--op XX]... > requests
+  oracle make --borders > requests
   oracle make --malformed > requests
   oracle record < requests > records
   oracle --help
@@ -28,6 +29,8 @@ make
   --op XX    only this op, two hexadecimal digits; may be given again
   --edges    every combination of edge operands instead; the seed and the
              count are then not needed and not used
+  --borders  divides one to either side of each border between accepted and
+             refused, and between the refusals
   --malformed  lines that are not admitted, of every kind
 
 record
@@ -50,6 +53,7 @@ pub enum Command {
     Edges {
         operations: Vec<Operation>,
     },
+    Borders,
     Malformed,
     Record,
 }
@@ -98,6 +102,7 @@ fn read_make(mut arguments: impl Iterator<Item = String>) -> Result<Command, Str
             "--seed" => seed = Some(number(&option, &mut arguments)?),
             "--count" => count = Some(number(&option, &mut arguments)?),
             "--edges" => edges = true,
+            "--borders" => return Ok(Command::Borders),
             "--malformed" => return Ok(Command::Malformed),
             "--op" => ops.push(op(&value(&option, &mut arguments)?)?),
             _ => return Err(format!("unknown option `{option}` of make")),

@@ -3,7 +3,7 @@
 use oracle::draw::Draw;
 use oracle::request::Operation;
 use oracle::session::{record, run, RefusedFlags, Stop};
-use oracle::{answer, edges, malformed, Fault, Request};
+use oracle::{answer, borders, edges, malformed, Fault, Request};
 use std::io::Write;
 use std::process::{Command, Output, Stdio};
 
@@ -186,6 +186,19 @@ fn program_answers_what_it_makes() {
     let answered = program(&["answer", "--refused-flags", "handed-in"], &requests);
     assert!(answered.status.success());
     assert_eq!(answered.stdout.len(), 500 * 19);
+}
+
+#[test]
+fn program_makes_borders_and_answers_them() {
+    let made = program(&["make", "--borders"], "");
+    let requests = String::from_utf8(made.stdout).unwrap();
+    assert_eq!(requests.lines().count(), borders::requests().len());
+    let answered = program(&["answer"], &requests);
+    assert!(answered.status.success());
+    let answers = String::from_utf8(answered.stdout).unwrap();
+    for status in ["00", "06", "08", "09"] {
+        assert!(answers.lines().any(|line| line.starts_with(status)));
+    }
 }
 
 #[test]
