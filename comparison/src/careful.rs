@@ -157,9 +157,29 @@ fn divide(mode: u8, flags: u16, x: u32, y: u16) -> Numbers {
     match outcome {
         Ok((quotient, remainder)) => done(cpu.flags(), cpu.steps(), quotient, remainder),
         Err(_) => Numbers {
-            status: 6,
+            status: refusal(mode, x, y),
             ..done(flags, cpu.steps(), 0, 0)
         },
+    }
+}
+
+/// The status of a divide that is refused. Of the magnitudes, the dividend's upper half is at least the
+/// divisor exactly if the quotient is too wide; any other quotient is refused for its sign.
+#[inline]
+fn refusal(mode: u8, x: u32, y: u16) -> u8 {
+    let (dividend, divisor) = match (mode & SIXTEEN != 0, mode & SIGNED != 0) {
+        (_, false) => (x, y),
+        (false, true) => (
+            (x as i16).unsigned_abs().into(),
+            (y as i8).unsigned_abs().into(),
+        ),
+        (true, true) => ((x as i32).unsigned_abs(), (y as i16).unsigned_abs()),
+    };
+    let bits = if mode & SIXTEEN != 0 { 16 } else { 8 };
+    match divisor {
+        0 => 6,
+        _ if dividend >> bits >= divisor.into() => 8,
+        _ => 9,
     }
 }
 

@@ -4,6 +4,7 @@
 
 use crate::asked::Asked;
 use crate::sides::Numbers;
+use oracle::Refused;
 
 pub struct Intended {
     pub name: &'static str,
@@ -30,13 +31,16 @@ pub const LIST: [Intended; 1] = [Intended {
         x: 0x0000_0000,
         y: 0x0000,
     },
-    shown_by: [refusal(0x0000, 9), refusal(0x0044, 9)],
+    shown_by: [
+        refusal(Refused::ZeroDivisor, 0x0000, 9),
+        refusal(Refused::ZeroDivisor, 0x0044, 9),
+    ],
     fits: is_refused_flags,
 }];
 
-const fn refusal(flags: u16, steps: u16) -> Numbers {
+const fn refusal(why: Refused, flags: u16, steps: u16) -> Numbers {
     Numbers {
-        status: 6,
+        status: why.status(),
         flags,
         steps,
         r: 0,
@@ -44,9 +48,13 @@ const fn refusal(flags: u16, steps: u16) -> Numbers {
     }
 }
 
+/// Both sides refuse for the same reason, whichever it is.
 fn is_refused_flags(asked: Asked, ours: &Numbers, theirs: &Numbers) -> bool {
+    let Some(why) = Refused::of_status(theirs.status) else {
+        return false;
+    };
     asked.op == 0x11
-        && *ours == refusal(asked.flags, theirs.steps)
-        && *theirs == refusal(theirs.flags, ours.steps)
+        && *ours == refusal(why, asked.flags, theirs.steps)
+        && *theirs == refusal(why, theirs.flags, ours.steps)
         && ours.flags != theirs.flags
 }

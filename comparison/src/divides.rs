@@ -2,6 +2,7 @@
 
 use crate::asked::Asked;
 use crate::sides::Numbers;
+use oracle::Refused;
 use std::fmt;
 
 #[derive(Clone, Copy, Debug, Default, PartialEq, Eq)]
@@ -9,27 +10,41 @@ pub struct Divides {
     pub accepted: u64,
     /// Those accepted whose quotient's magnitude is one of the three lowest or the two highest.
     pub at_end: u64,
-    pub refused: u64,
+    /// Those refused, by the place of the reason in `Refused::ALL`.
+    refused: [u64; Refused::ALL.len()],
 }
 
 impl Divides {
     /// Counts a request if it is an admitted divide.
     #[inline]
     pub fn count(&mut self, asked: Asked, given: &Numbers) {
-        match (asked.op, given.status) {
-            (0x11, 0) => {
-                self.accepted += 1;
-                self.at_end += u64::from(is_at_end(asked.mode, given.r));
-            }
-            (0x11, 6) => self.refused += 1,
-            _ => {}
+        if asked.op != 0x11 {
+            return;
         }
+        if given.status == 0 {
+            self.accepted += 1;
+            self.at_end += u64::from(is_at_end(asked.mode, given.r));
+        }
+        for (why, count) in Refused::ALL.iter().zip(&mut self.refused) {
+            *count += u64::from(given.status == why.status());
+        }
+    }
+
+    pub fn all(&self) -> u64 {
+        self.accepted + self.refused.iter().sum::<u64>()
+    }
+
+    /// Each refusal, and how many divides were refused so.
+    pub fn refused(&self) -> impl Iterator<Item = (Refused, u64)> {
+        Refused::ALL.into_iter().zip(self.refused)
     }
 
     pub fn add(&mut self, other: Divides) {
         self.accepted += other.accepted;
         self.at_end += other.at_end;
-        self.refused += other.refused;
+        for (sum, part) in self.refused.iter_mut().zip(other.refused) {
+            *sum += part;
+        }
     }
 }
 
@@ -45,14 +60,19 @@ fn is_at_end(mode: u8, quotient: u16) -> bool {
 
 impl fmt::Display for Divides {
     fn fmt(&self, out: &mut fmt::Formatter) -> fmt::Result {
-        let all = (self.accepted + self.refused).max(1) as f64;
+        let all = self.all().max(1) as f64;
         let share = |part: u64| part as f64 * 100.0 / all;
         write!(
             out,
-            "divides: {:.1} % accepted, {:.1} % with a quotient at an end of its range, {:.1} % refused",
+            "divides: {:.1} % accepted, {:.1} % with a quotient at an end of its range; refused:",
             share(self.accepted),
-            share(self.at_end),
-            share(self.refused)
-        )
+            share(self.at_end)
+        )?;
+        let mut before = " ";
+        for (why, count) in self.refused() {
+            write!(out, "{before}{:.1} % {why}", share(count))?;
+            before = ", ";
+        }
+        Ok(())
     }
 }

@@ -74,6 +74,25 @@ impl Tally {
         }
     }
 
+    /// What a full comparison is to meet and this one has not, each with what to do about it.
+    pub fn unmet(&self) -> Vec<String> {
+        let counted = LIST.iter().zip(self.intended);
+        let differences = counted.filter(|(_, count)| *count == 0).map(|(entry, _)| {
+            format!(
+                "the intended difference '{}' was never met; mend it or take it from the list.",
+                entry.name
+            )
+        });
+        let counted = self.divides.refused();
+        let refusals = counted.filter(|(_, count)| *count == 0).map(|(why, _)| {
+            format!(
+                "no divide was refused with status {}, {why}; mend what is asked.",
+                why.status()
+            )
+        });
+        differences.chain(refusals).collect()
+    }
+
     pub fn add(&mut self, other: Tally) {
         self.compared += other.compared;
         self.divides.add(other.divides);

@@ -6,9 +6,12 @@ use comparison::form::Form;
 use comparison::lines::held::{self, Case, Lent};
 use comparison::lines::model::Model;
 use comparison::plan;
-use comparison::sides::{ours, Numbers, Side};
+use comparison::sides::{ours, theirs, Numbers, Side};
 use comparison::tally::{Tally, MOST_SHOWN};
 use hatchyarn::raw::{self, Ran};
+use oracle::edges;
+use oracle::request::Operation;
+use std::convert::Infallible;
 
 const QUICK: Form = Form {
     full: false,
@@ -33,7 +36,7 @@ fn but_for_one(asked: Asked, wrong: impl Fn(&mut Numbers)) -> Numbers {
     given
 }
 
-fn edges(side: Side) -> Tally {
+fn at_edges(side: Side) -> Tally {
     let mut sections = plan::sections(QUICK).into_iter();
     let section = sections.find(|section| section.name.ends_with("edges"));
     section.expect("there is one").run(1, &Tally::new(side))
@@ -55,7 +58,7 @@ fn one_wrong_answer_is_found_and_named() {
         ("S", |asked| but_for_one(asked, |given| given.s ^= 0x8000)),
     ];
     for (field, side) in wrong {
-        let tally = edges(side);
+        let tally = at_edges(side);
         assert_eq!(tally.unlisted, 1, "{field}");
         let [shown] = &tally.shown[..] else {
             panic!("{:?}", tally.shown)
@@ -63,7 +66,7 @@ fn one_wrong_answer_is_found_and_named() {
         assert!(shown.starts_with("00000000000000FF0001 "), "{shown}");
         assert!(shown.ends_with(&format!("differ in {field}")), "{shown}");
     }
-    assert_eq!(edges(ours).unlisted, 0);
+    assert_eq!(at_edges(ours).unlisted, 0);
 }
 
 #[test]
@@ -72,7 +75,7 @@ fn all_are_counted_and_some_are_shown() {
         flags: ours(asked).flags ^ 1,
         ..ours(asked)
     };
-    let tally = edges(side);
+    let tally = at_edges(side);
     assert_eq!(tally.unlisted, tally.compared);
     assert_eq!(tally.shown.len(), MOST_SHOWN);
 }
@@ -89,6 +92,161 @@ fn a_refused_divide_with_wrong_steps_is_found() {
     });
     tally.hold(LIST[0].smallest);
     assert_eq!((tally.intended, tally.unlisted), ([0], 1));
+}
+
+/// What a wrong rule for the status of a divide looks at.
+struct Divide {
+    signed: bool,
+    bits: u32,
+    /// The magnitude of the quotient; none by a divisor of 0.
+    quotient: Option<u64>,
+    /// The right status.
+    status: u8,
+}
+
+/// The port, but that divides have the status of a wrong rule.
+fn by(rule: fn(&Divide) -> u8, asked: Asked) -> Numbers {
+    let given = ours(asked);
+    if asked.op != 0x11 {
+        return given;
+    }
+    let (signed, bits) = (asked.mode & 2 != 0, bits(asked));
+    let magnitude = |value: u64, bits: u32| match signed && value >> (bits - 1) != 0 {
+        true => (1 << bits) - value,
+        false => value,
+    };
+    let dividend = magnitude(asked.x.into(), 2 * bits);
+    let status = rule(&Divide {
+        signed,
+        bits,
+        quotient: dividend.checked_div(magnitude(asked.y.into(), bits)),
+        status: given.status,
+    });
+    Numbers { status, ..given }
+}
+
+fn bits(asked: Asked) -> u32 {
+    match asked.mode & 1 != 0 {
+        true => 16,
+        false => 8,
+    }
+}
+
+fn zero_divisor_as_too_wide(divide: &Divide) -> u8 {
+    match divide.quotient {
+        None => 8,
+        Some(_) => divide.status,
+    }
+}
+
+fn first_of_sign_range_as_too_wide(divide: &Divide) -> u8 {
+    match divide.quotient == Some(1 << (divide.bits - 1)) && divide.signed {
+        true => 8,
+        false => divide.status,
+    }
+}
+
+fn last_of_sign_range_as_too_wide(divide: &Divide) -> u8 {
+    match divide.quotient == Some((1 << divide.bits) - 1) && divide.signed {
+        true => 8,
+        false => divide.status,
+    }
+}
+
+fn first_too_wide_as_sign_range(divide: &Divide) -> u8 {
+    match divide.quotient == Some(1 << divide.bits) && divide.signed {
+        true => 9,
+        false => divide.status,
+    }
+}
+
+fn unsigned_too_wide_as_sign_range(divide: &Divide) -> u8 {
+    match divide.status == 8 && !divide.signed {
+        true => 9,
+        false => divide.status,
+    }
+}
+
+fn sign_range_of_unsigned(divide: &Divide) -> u8 {
+    let has_high_bit = divide.quotient >= Some(1 << (divide.bits - 1));
+    match divide.status == 0 && !divide.signed && has_high_bit {
+        true => 9,
+        false => divide.status,
+    }
+}
+
+/// How many edges have another status than the oracle says, at 8 and at 16 bits.
+fn apart(side: Side) -> [u64; 2] {
+    let mut apart = [0; 2];
+    for operation in Operation::all() {
+        let mut take = |request| {
+            let asked = Asked::from(request);
+            let is_apart = side(asked).status != theirs(asked).status;
+            apart[usize::from(bits(asked) == 16)] += u64::from(is_apart);
+            Ok::<(), Infallible>(())
+        };
+        let Ok(()) = edges::each(operation, &mut take);
+    }
+    apart
+}
+
+/// None of them is taken for the intended difference, at either width.
+#[test]
+fn a_refusal_for_the_wrong_reason_is_found() {
+    let wrong: [(&str, Side); 6] = [
+        ("zero divisor as too wide", |asked| {
+            by(zero_divisor_as_too_wide, asked)
+        }),
+        ("first of sign range as too wide", |asked| {
+            by(first_of_sign_range_as_too_wide, asked)
+        }),
+        ("last of sign range as too wide", |asked| {
+            by(last_of_sign_range_as_too_wide, asked)
+        }),
+        ("first too wide as sign range", |asked| {
+            by(first_too_wide_as_sign_range, asked)
+        }),
+        ("unsigned too wide as sign range", |asked| {
+            by(unsigned_too_wide_as_sign_range, asked)
+        }),
+        ("sign range of unsigned", |asked| {
+            by(sign_range_of_unsigned, asked)
+        }),
+    ];
+    for (name, side) in wrong {
+        let (tally, [bytes, words]) = (at_edges(side), apart(side));
+        assert!(bytes > 0 && words > 0, "{name}: {bytes}, {words}");
+        assert_eq!(tally.unlisted, bytes + words, "{name}");
+        let in_status = |shown: &String| shown.contains("differ in status");
+        assert!(tally.shown.iter().all(in_status), "{:?}", tally.shown);
+    }
+}
+
+/// A full comparison has to meet the intended difference and every refusal.
+#[test]
+fn what_is_never_met_is_named() {
+    let mut tally = Tally::new(ours);
+    let all = tally.unmet();
+    let told = [
+        "the intended difference 'flags after a refused divide'",
+        "status 6, zero divisor",
+        "status 8, too wide",
+        "status 9, sign range",
+    ];
+    assert_eq!(all.len(), told.len());
+    for (unmet, told) in all.iter().zip(told) {
+        assert!(unmet.contains(told), "{unmet} does not say {told}");
+    }
+    for (mode, x, y, left) in [(0, 0, 0, 2), (2, 0x0100, 1, 1), (2, 0x0080, 1, 0)] {
+        tally.hold(Asked {
+            op: 0x11,
+            mode,
+            flags: 0,
+            x,
+            y,
+        });
+        assert_eq!(tally.unmet(), all[all.len() - left..]);
+    }
 }
 
 const TEXT: &[u8] = b"11000000000000070002\n\n110200000000ff800001";

@@ -55,6 +55,8 @@ fn an_entry_fits_nothing_besides() {
     assert!(!fits(multiply, ours, theirs), "another op");
     for wrong in [
         Numbers { status: 0, ..ours },
+        Numbers { status: 8, ..ours },
+        Numbers { status: 9, ..ours },
         Numbers { flags: 1, ..ours },
         Numbers { steps: 8, ..ours },
         Numbers { r: 1, ..ours },
@@ -67,10 +69,47 @@ fn an_entry_fits_nothing_besides() {
             status: 0,
             ..theirs
         },
+        Numbers {
+            status: 8,
+            ..theirs
+        },
         Numbers { r: 1, ..theirs },
         Numbers { s: 1, ..theirs },
     ] {
         assert!(!fits(entry.smallest, ours, wrong), "{wrong:?}");
+    }
+}
+
+/// Divides of each status show it: by 0, too wide, and in the sign range alone.
+#[test]
+fn every_refusal_shows_it() {
+    for (mode, x, y, status) in [
+        (0x00, 0x0000, 0x00, 6),
+        (0x02, 0x0080, 0x00, 6),
+        (0x00, 0x0100, 0x01, 8),
+        (0x02, 0x0100, 0x01, 8),
+        (0x02, 0xFF80, 0x01, 9),
+    ] {
+        let asked = Asked {
+            op: 0x11,
+            mode,
+            flags: 0,
+            x,
+            y,
+        };
+        assert_eq!(both(asked).map(|given| given.status), [status; 2]);
+        assert!(shows(&LIST[0], asked), "{}", asked.line());
+    }
+}
+
+/// The status on both sides has to be that of a refused divide.
+#[test]
+fn a_status_that_is_no_refusal_fits_no_entry() {
+    let [ours, theirs] = LIST[0].shown_by;
+    for status in 0..=u8::MAX {
+        let (ours, theirs) = (Numbers { status, ..ours }, Numbers { status, ..theirs });
+        let fits = (LIST[0].fits)(LIST[0].smallest, &ours, &theirs);
+        assert_eq!(fits, [6, 8, 9].contains(&status), "{status}");
     }
 }
 

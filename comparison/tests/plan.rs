@@ -7,13 +7,15 @@ use comparison::plan;
 use comparison::sides::ours;
 use comparison::tally::Tally;
 use oracle::request::Operation;
+use oracle::Refused;
 
 const QUICK: Form = Form {
     full: false,
     seed: 1,
 };
 
-/// Most drawn divides are accepted, and many of them have a quotient at an end of its range.
+/// Most drawn divides are accepted, and many of them have a quotient at an end of its range; every
+/// refusal turns up.
 #[test]
 fn drawn_divides_are_worth_asking() {
     let is_divide = |operation: &Operation| matches!(operation, Operation::Divide(_));
@@ -23,10 +25,17 @@ fn drawn_divides_are_worth_asking() {
         tally.hold(Asked::from(draw.request(&operations)));
     }
     let divides = tally.divides;
-    assert_eq!(divides.accepted + divides.refused, 100_000);
+    assert_eq!(divides.all(), 100_000);
     assert!(divides.accepted > 75_000, "{divides}");
     assert!(divides.at_end > 20_000, "{divides}");
-    assert!(divides.refused > 10_000, "{divides}");
+    assert!(divides.all() - divides.accepted > 10_000, "{divides}");
+    for (why, count) in divides.refused() {
+        let fewest = match why {
+            Refused::ZeroDivisor | Refused::TooWide => 5_000,
+            Refused::SignRange => 1_000,
+        };
+        assert!(count > fewest, "{divides}");
+    }
 }
 
 #[test]
@@ -49,7 +58,7 @@ fn threads_change_nothing() {
         edges.run(1, &Tally::new(ours)),
         edges.run(2, &Tally::new(ours)),
     );
-    assert_eq!(one.compared, 694_408);
+    assert_eq!(one.compared, 703_436);
     assert_eq!((one.compared, one.intended), (two.compared, two.intended));
 }
 
@@ -57,7 +66,7 @@ fn threads_change_nothing() {
 fn the_model_answers_the_session_of_the_scope() {
     let text = b"11000000000000070002\n110200000000FF800001\n";
     let model = Model::of(text, false);
-    assert_eq!(model.answers, b"000001005100030001\n060000005F00000000\n");
+    assert_eq!(model.answers, b"000001005100030001\n090000005F00000000\n");
     assert_eq!(model.within(37), (1, 21));
     assert_eq!(model.within(38), (2, 42));
     assert_eq!(model.within(18), (0, 0));
@@ -81,6 +90,12 @@ fn the_model_has_the_order_of_the_table() {
         ("0008FFFFFFFFFFFFFFFF", 4),
         ("00000002000000000000", 5),
         ("11000000000000000000", 6),
+        ("11020000000080000000", 6),
+        ("11000000000001000001", 8),
+        ("11020000000001000001", 8),
+        ("11020000000000FF0001", 9),
+        ("110200000000FF800001", 9),
+        ("11000000000000FF0001", 0),
         ("11000000000000070002", 0),
     ] {
         assert_eq!(status(line.as_bytes(), 19), expected, "{line}");

@@ -17,8 +17,8 @@ use: compare [--full] [--seed N]
   --full    everything at 8 bits, and far more at 16; several minutes on two cores
   --seed N  a decimal number that changes what is drawn; 1 if nothing is said
 
-exit: 0 all the same but for the intended differences, 1 something else differs or an intended
-difference was never met by the full form, 2 the command is not understood
+exit: 0 all the same but for the intended differences, 1 something else differs or the full form
+never met an intended difference or a refusal of a divide, 2 the command is not understood
 ";
 
 /// More would take the machine from whoever shares it.
@@ -95,7 +95,7 @@ fn timed(section: &Section, threads: usize, sum: &Tally) -> Tally {
         section.unit,
         start.elapsed().as_secs_f64()
     );
-    if tally.divides.accepted + tally.divides.refused > 0 {
+    if tally.divides.all() > 0 {
         println!("    {}", tally.divides);
     }
     tally
@@ -114,13 +114,11 @@ fn conclude(form: Form, sum: &Tally) -> ExitCode {
         println!("DIFFERENT: {difference}");
     }
     println!("compare: {} differ otherwise", grouped(sum.unlisted));
-    let unmet = form.full && sum.intended.contains(&0);
-    if unmet {
-        println!(
-            "compare: an intended difference was never met; mend it or take it from the list."
-        );
+    let unmet = form.choose(sum.unmet(), Vec::new());
+    for what in &unmet {
+        println!("compare: {what}");
     }
-    ExitCode::from(u8::from(unmet || sum.unlisted > 0))
+    ExitCode::from(u8::from(!unmet.is_empty() || sum.unlisted > 0))
 }
 
 /// A number with its thousands apart.

@@ -69,7 +69,8 @@ pub struct Results<T> {
 
 #[repr(u8)]
 pub enum Refusal {
-    FirstCompare,
+    ZeroDivisor,
+    TooWide,
     SignRange,
 }
 

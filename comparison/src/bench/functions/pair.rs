@@ -57,7 +57,7 @@ impl Pair {
         theirs: impl Fn(&Input, &mut MaybeUninit<S>),
     ) -> Result<String, String> {
         for (input, asked) in self.inputs.iter().zip(&self.asked) {
-            let [ours, theirs] = [answer(input, &ours), answer(input, &theirs)];
+            let [ours, theirs] = [answer(input, *asked, &ours), answer(input, *asked, &theirs)];
             if ours != theirs {
                 let (line, ours, theirs) = (asked.line(), digits(&ours), digits(&theirs));
                 return Err(format!("{line}: {ours} and MartyPC's {theirs}"));
@@ -68,11 +68,15 @@ impl Pair {
     }
 }
 
-fn answer<R: Told>(input: &Input, call: impl Fn(&Input, &mut MaybeUninit<R>)) -> Numbers {
+fn answer<R: Told>(
+    input: &Input,
+    asked: Asked,
+    call: impl Fn(&Input, &mut MaybeUninit<R>),
+) -> Numbers {
     let mut out = MaybeUninit::zeroed();
     call(input, &mut out);
     // SAFETY: the call has written all of it.
-    unsafe { out.assume_init() }.told()
+    unsafe { out.assume_init() }.told(asked)
 }
 
 #[inline(always)]

@@ -1,64 +1,76 @@
 //! What a function wrote, as the numbers of an answer, so that the two sides can be compared.
 
 use super::given::{
-    DivideOutcome, Divided, Done, Flags, Halves, ResultC, ResultCo, ResultCoa, Results,
+    DivideOutcome, Divided, Done, Flags, Halves, Refusal, ResultC, ResultCo, ResultCoa, Results,
 };
-use crate::sides::Numbers;
+use crate::asked::Asked;
+use crate::sides::{theirs, Numbers};
+use oracle::Refused;
 
 pub trait Told {
     /// Flags that the function does not name are clear, and so are those of a refused divide, where
-    /// the two sides are meant to differ.
-    fn told(self) -> Numbers;
+    /// the two sides are meant to differ. What was asked tells what a function does not write.
+    fn told(self, asked: Asked) -> Numbers;
 }
 
 impl<T: Into<u16>> Told for ResultC<T> {
-    fn told(self) -> Numbers {
+    fn told(self, _asked: Asked) -> Numbers {
         leaf(self.result, [self.carry, false, false])
     }
 }
 
 impl<T: Into<u16>> Told for ResultCo<T> {
-    fn told(self) -> Numbers {
+    fn told(self, _asked: Asked) -> Numbers {
         leaf(self.result, [self.carry, self.overflow, false])
     }
 }
 
 impl<T: Into<u16>> Told for ResultCoa<T> {
-    fn told(self) -> Numbers {
+    fn told(self, _asked: Asked) -> Numbers {
         leaf(self.result, [self.carry, self.overflow, self.aux_carry])
     }
 }
 
 impl<F: Into<u16>> Told for Done<u16, F> {
-    fn told(self) -> Numbers {
+    fn told(self, _asked: Asked) -> Numbers {
         accepted(self.flags, self.steps, self.given, 0_u16)
     }
 }
 
 impl<F: Into<u16>> Told for Done<Halves, F> {
-    fn told(self) -> Numbers {
+    fn told(self, _asked: Asked) -> Numbers {
         accepted(self.flags, self.steps, self.given.upper, self.given.lower)
     }
 }
 
-/// MartyPC's divides.
+/// MartyPC's divides, which do not write why they refuse. The oracle tells it.
 impl<T: Into<u16>> Told for Done<Result<(T, T), bool>, u16> {
-    fn told(self) -> Numbers {
+    fn told(self, asked: Asked) -> Numbers {
         match self.given {
             Ok((quotient, remainder)) => accepted(self.flags, self.steps, quotient, remainder),
-            Err(_) => refused(self.steps),
+            Err(_) => refused(theirs(asked).status, self.steps),
+        }
+    }
+}
+
+impl From<Refusal> for Refused {
+    fn from(refusal: Refusal) -> Refused {
+        match refusal {
+            Refusal::ZeroDivisor => Refused::ZeroDivisor,
+            Refusal::TooWide => Refused::TooWide,
+            Refusal::SignRange => Refused::SignRange,
         }
     }
 }
 
 impl<T: Into<u16>> Told for Divided<T> {
-    fn told(self) -> Numbers {
+    fn told(self, _asked: Asked) -> Numbers {
         match self.given {
             DivideOutcome::Accepted(Results {
                 quotient,
                 remainder,
             }) => accepted(self.flags, self.steps, quotient, remainder),
-            DivideOutcome::Refused(_) => refused(self.steps),
+            DivideOutcome::Refused(why) => refused(Refused::from(why).status(), self.steps),
         }
     }
 }
@@ -83,9 +95,9 @@ fn accepted(flags: impl Into<u16>, steps: u16, r: impl Into<u16>, s: impl Into<u
     }
 }
 
-fn refused(steps: u16) -> Numbers {
+fn refused(status: u8, steps: u16) -> Numbers {
     Numbers {
-        status: 6,
+        status,
         flags: 0,
         steps,
         r: 0,
