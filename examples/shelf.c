@@ -19,14 +19,16 @@ static bool number(const char *text, size_t most, unsigned long *value)
     return digits > 0 && digits <= most && text[digits] == '\0';
 }
 
-/* Why the object is closed, by the status of the refused divide; the third is HATCHYARN_SIGN_RANGE. */
+/* Why the object is closed, by the status of the refused divide. */
 static const char *reason(uint8_t status)
 {
     if (status == HATCHYARN_ZERO_DIVISOR)
         return "the number is 0";
     if (status == HATCHYARN_TOO_WIDE)
         return "the key is too large for the number";
-    return "the key is too large for the number, since a shelf has a sign";
+    if (status == HATCHYARN_SIGN_RANGE)
+        return "the key is too large for the number, since a shelf has a sign";
+    return "the divide is refused";
 }
 
 int main(int argc, char **argv)

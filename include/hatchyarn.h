@@ -32,7 +32,7 @@ enum hatchyarn_status {
     HATCHYARN_BAD_OP = 3,       /* the op is not listed */
     HATCHYARN_BAD_MODE = 4,     /* the mode does not fit the op */
     HATCHYARN_TOO_LARGE = 5,    /* X or Y is too large, or a bit of the flags word is no flag */
-    HATCHYARN_ZERO_DIVISOR = 6, /* the divisor is 0, as a community's number is until it is set */
+    HATCHYARN_ZERO_DIVISOR = 6, /* the divisor is 0 */
     HATCHYARN_NO_ROOM = 7,      /* there is no room for an answer, and nothing was written */
     HATCHYARN_TOO_WIDE = 8,     /* the quotient's magnitude is 2^N or more, too wide for N bits */
     HATCHYARN_SIGN_RANGE = 9    /* signed, and the quotient's magnitude is from 2^(N-1) to 2^N - 1: it does
@@ -40,8 +40,8 @@ enum hatchyarn_status {
 };
 
 /*
- * Whether a status is that of a refused divide: true of exactly 6, 8 and 9. Ask with it whether something
- * is closed, and never of one status alone. All three are closed; which of them it is tells only why.
+ * Whether a status is that of a refused divide: true of exactly 6, 8 and 9. Where a refused divide means
+ * closed, ask with it and never of one status alone; which of the three it is tells only why.
  */
 static inline bool hatchyarn_divide_refused(uint8_t status)
 {

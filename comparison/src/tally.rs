@@ -86,7 +86,7 @@ impl Tally {
         let counted = self.divides.refused();
         let refusals = counted.filter(|(_, count)| *count == 0).map(|(why, _)| {
             format!(
-                "no divide was refused with status {}, {why}; mend what is asked.",
+                "no divide was refused with status {}, {why}; let src/plan.rs ask for one.",
                 why.status()
             )
         });

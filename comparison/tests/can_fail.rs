@@ -111,9 +111,12 @@ fn by(rule: fn(&Divide) -> u8, asked: Asked) -> Numbers {
         return given;
     }
     let (signed, bits) = (asked.mode & 2 != 0, bits(asked));
-    let magnitude = |value: u64, bits: u32| match signed && value >> (bits - 1) != 0 {
-        true => (1 << bits) - value,
-        false => value,
+    let magnitude = |value: u64, bits: u32| {
+        if signed && value >> (bits - 1) != 0 {
+            (1 << bits) - value
+        } else {
+            value
+        }
     };
     let dividend = magnitude(asked.x.into(), 2 * bits);
     let status = rule(&Divide {
@@ -126,9 +129,10 @@ fn by(rule: fn(&Divide) -> u8, asked: Asked) -> Numbers {
 }
 
 fn bits(asked: Asked) -> u32 {
-    match asked.mode & 1 != 0 {
-        true => 16,
-        false => 8,
+    if asked.mode & 1 != 0 {
+        16
+    } else {
+        8
     }
 }
 
@@ -140,38 +144,43 @@ fn zero_divisor_as_too_wide(divide: &Divide) -> u8 {
 }
 
 fn first_of_sign_range_as_too_wide(divide: &Divide) -> u8 {
-    match divide.quotient == Some(1 << (divide.bits - 1)) && divide.signed {
-        true => 8,
-        false => divide.status,
+    if divide.quotient == Some(1 << (divide.bits - 1)) && divide.signed {
+        8
+    } else {
+        divide.status
     }
 }
 
 fn last_of_sign_range_as_too_wide(divide: &Divide) -> u8 {
-    match divide.quotient == Some((1 << divide.bits) - 1) && divide.signed {
-        true => 8,
-        false => divide.status,
+    if divide.quotient == Some((1 << divide.bits) - 1) && divide.signed {
+        8
+    } else {
+        divide.status
     }
 }
 
 fn first_too_wide_as_sign_range(divide: &Divide) -> u8 {
-    match divide.quotient == Some(1 << divide.bits) && divide.signed {
-        true => 9,
-        false => divide.status,
+    if divide.quotient == Some(1 << divide.bits) && divide.signed {
+        9
+    } else {
+        divide.status
     }
 }
 
 fn unsigned_too_wide_as_sign_range(divide: &Divide) -> u8 {
-    match divide.status == 8 && !divide.signed {
-        true => 9,
-        false => divide.status,
+    if divide.status == 8 && !divide.signed {
+        9
+    } else {
+        divide.status
     }
 }
 
 fn sign_range_of_unsigned(divide: &Divide) -> u8 {
     let has_high_bit = divide.quotient >= Some(1 << (divide.bits - 1));
-    match divide.status == 0 && !divide.signed && has_high_bit {
-        true => 9,
-        false => divide.status,
+    if divide.status == 0 && !divide.signed && has_high_bit {
+        9
+    } else {
+        divide.status
     }
 }
 

@@ -149,20 +149,21 @@ impl Divides {
         }
     }
 
-    /// The last quotient before each border and the first from it on, for all signs.
-    fn hold_quotients(&self) {
+    /// Each border has, for all signs, the last dividend before it and the first from it on, by
+    /// divisors that may differ.
+    fn hold_sides(&self) {
         for mode in modes() {
-            for quotient in border_quotients(mode)
-                .map(|first| [first - 1, first])
-                .concat()
-            {
-                for signs in signs(mode) {
-                    let found = self.0.keys().any(|(of, dividend, divisor)| {
-                        *of == code(mode)
-                            && [dividend.negative, divisor.negative] == signs
-                            && dividend.magnitude.checked_div(divisor.magnitude) == Some(quotient)
-                    });
-                    assert!(found, "{mode:?}, negative {signs:?}: no {quotient:X}");
+            for signs in signs(mode) {
+                for border in border_quotients(mode) {
+                    for before in [1, 0] {
+                        let found = self.0.keys().any(|(of, dividend, divisor)| {
+                            *of == code(mode)
+                                && [dividend.negative, divisor.negative] == signs
+                                && divisor.magnitude > 0
+                                && dividend.magnitude + before == border * divisor.magnitude
+                        });
+                        assert!(found, "{mode:?}, negative {signs:?}: {border:X} - {before}");
+                    }
                 }
             }
         }
@@ -260,11 +261,11 @@ fn a_draw_of_some_thousands_has_every_outcome() {
 fn the_draws_hold_both_sides_of_every_border() {
     let operations: Vec<Operation> = modes().map(Operation::Divide).collect();
     let (mut draw, mut divides) = (Draw::new(1), Divides::default());
-    for _ in 0..50_000 {
+    for _ in 0..200_000 {
         divides.ask(&draw.request(&operations));
     }
     divides.hold_statuses();
-    divides.hold_quotients();
+    divides.hold_sides();
 }
 
 /// A record is the answer's 18 digits, a space and the line.

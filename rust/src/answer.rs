@@ -32,7 +32,7 @@ pub enum Refusal {
     Mode,
     /// Status 5: X or Y is too large, or a bit of the flags word is no flag.
     TooLarge,
-    /// The chip traps: status 6, 8 or 9, as `why` says. One arm is closed for all of them.
+    /// The chip traps: status 6, 8 or 9, as `why` says. One arm serves all three.
     Divide {
         /// Which of the three it is.
         why: DivideRefusal,
@@ -139,7 +139,7 @@ impl fmt::Display for DivideRefusal {
     fn fmt(&self, out: &mut fmt::Formatter) -> fmt::Result {
         out.pad(match self {
             DivideRefusal::ZeroDivisor => "the divisor is 0",
-            DivideRefusal::TooWide => "the quotient is too wide for the divisor's bits",
+            DivideRefusal::TooWide => "the quotient needs more bits than the divisor has",
             DivideRefusal::SignRange => "the quotient does not fit with its sign",
         })
     }

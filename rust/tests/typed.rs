@@ -244,7 +244,7 @@ fn a_refused_divide_says_why() {
         (DivideRefusal::ZeroDivisor, "the divisor is 0"),
         (
             DivideRefusal::TooWide,
-            "the quotient is too wide for the divisor's bits",
+            "the quotient needs more bits than the divisor has",
         ),
         (
             DivideRefusal::SignRange,

@@ -4,20 +4,21 @@ use mathlib.Core.Path.{_≡_, refl, sym, ap, ap₂, subst, _∙_}
 use mathlib.Core.Bool.{Bool, true, false, not, cond, xor, _&&_, _||_, false≢true, true≢false}
 use mathlib.Core.Logic.{_⊎_, inl, inr, ⊎-elim}
 use Prim.Native.Nat.{ℕ, zero, suc, _+_, _-_, _*_, _/_, _%_, _^_, _≤_, _<_}
-use native.Mathlib.Nat.{le-trans, mod-lt, mod-eq-of-lt, div-lt-iff-lt-mul, div-add-mod', mul-comm}
+use native.Mathlib.Nat.{mod-lt, mod-eq-of-lt, div-lt-iff-lt-mul, div-add-mod', mul-comm}
 use native.Mathlib.Omega.{arith}
 use lib.Dec.{leb, ltb, eqb}
-use lib.IntN.{ℤ, pos, negℤ, natAbs}
+use lib.IntN.{ℤ, negℤ, natAbs}
 use lib.Pow.{pow-pos}
 use lib.Signed.{quotZ, remZ}
-use borrow.Author.Tests.{leb-true, leb-false, ltb-true, ltb-false, le-leb, lt-leb, lt-ltb, le-ltb, eq-eqb, ne-eqb}
-use Rattle.flags.specs.Numbers.{top, topSet, signed, magnitude, wrapped, negated}
+use borrow.Author.Tests.{leb-true, leb-false, ltb-true, le-leb, lt-leb, lt-ltb, le-ltb, eq-eqb, ne-eqb}
+use Rattle.flags.specs.Numbers.{top, topSet, signed, magnitude, wrapped}
 use Rattle.flags.specs.Word.{setCO}
 use Rattle.flags.specs.declared.word.Flags.{Flags}
 use Rattle.flags.proofs.Powers.{top-twice}
 use Rattle.flags.proofs.SignLaws.{signOf, plain, signed-by, abs-sign, quot-sign, rem-sign, wrapped-sign, plain-lt, plain-by, magnitude-plain, neg-once-more, xor-assoc, top-upper}
 use Rattle.negate.specs.Negate.{Pair, Negate}
 use Rattle.divide.proofs.CordLaws.{most-ones}
+use Rattle.divide.proofs.Borders.{wide-true, wide-false}
 use Rattle.divide.specs.Cord as Cord
 use Rattle.divide.specs.Cord.{Results, CordAnswer, lastCompare, cordSteps, cordRefused, cordAccepted, cord}
 use Rattle.divide.specs.Idiv as Idiv
@@ -82,13 +83,6 @@ module _ (n b d before : ℕ) {a : CordAnswer} where
 
 -- ---- refusals
 
--- too wide is at least 2 ^ n
-pub wide-true : (n q : ℕ) → tooWide n q ≡ true → 2 ^ n ≤ q
-wide-true n q e = leb-true (2 ^ n) q e
-
-pub wide-false : (n q : ℕ) → tooWide n q ≡ false → q < 2 ^ n
-wide-false n q e = leb-false (2 ^ n) q e
-
 -- the upper half is at least the divisor, where that is not 0, exactly if the quotient is too wide
 wide-first : (n d b : ℕ) → 0 < b → leb b (d / 2 ^ n) ≡ tooWide n (d / b)
 wide-first n d b hb = by (leb b (d / 2 ^ n)) (tooWide n (d / b)) refl refl
@@ -105,7 +99,7 @@ module _ (n : ℕ) (s : Bool) (d b : ℕ) where
   ByMagnitudes = ((eqb b 0 ≡ true) × (divisorOf n s b ≡ 0))
       ⊎ ((eqb b 0 ≡ false) × (0 < divisorOf n s b) × (natAbs (quotientOf n s d b) ≡ dividendOf n s d / divisorOf n s b))
 
-  -- the first compare refuses for the first two reasons, and for no other
+  -- the first compare is that of the first two reasons
   pub compared-first : ByMagnitudes → atFirst n s d b ≡ applies ZeroDivisor n s d b || applies TooWide n s d b
   compared-first (inl (z, m)) = rw (z, m) (le-leb 0 (dividendOf n s d / 2 ^ n) (omega arith))
   compared-first (inr (z, m, q)) = rw (z, q) (wide-first n (dividendOf n s d) (divisorOf n s b) m)

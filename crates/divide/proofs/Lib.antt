@@ -3,6 +3,7 @@ pub mod Turning
 pub mod RoadLaws
 pub mod IdivLaws
 pub mod FlagLaws
+pub mod Borders
 pub mod DivLaws
 pub mod AfterPre
 pub mod Logged

@@ -3,20 +3,19 @@
 use mathlib.Core.Path.{_≡_, refl, sym, ap, subst, _∙_}
 use mathlib.Core.Bool.{Bool, true, false, not, cond, _&&_, _||_, and-eq-true-iff, false≢true, true≢false}
 use mathlib.Core.Logic.{_⊎_, inl, inr, _↔_}
-use Prim.Native.Nat.{ℕ, _+_, _-_, _/_, _^_, _≤_, _<_}
+use Prim.Native.Nat.{ℕ, _+_, _/_, _^_, _≤_, _<_}
 use native.Mathlib.Omega.{arith}
-use lib.Dec.{leb, ltb, eqb}
+use lib.Dec.{ltb, eqb}
 use lib.IntN.{ℤ, natAbs}
-use lib.Pow.{pow-pos}
-use borrow.Author.Tests.{leb-true, leb-false, ltb-true, ltb-false, le-leb, ne-eqb, not-true}
+use borrow.Author.Tests.{ne-eqb, not-true}
 use Rattle.flags.specs.Numbers.{top, valued}
 use Rattle.flags.specs.declared.word.Flags.{Flags}
-use Rattle.flags.proofs.Powers.{top-twice}
 use Rattle.divide.specs.Divide.{Divided, accepted, refused, accepts, tooWide, signRange, applies, refusalOf, quotientOf, atFirst, refusedSteps, refusedFlags, resultsOf, divide}
 use Rattle.divide.specs.Manual.{Division, isRefused}
 use Rattle.divide.specs.declared.div.Refusal.{Refusal}
 use Rattle.divide.specs.declared.div.Refusal.the-variants.{ZeroDivisor, TooWide, SignRange}
-use Rattle.divide.proofs.DivLaws.{wide-true, wide-false, compared-first, refused-is, unsigned-known, signed-known}
+use Rattle.divide.proofs.Borders.{true-wide, wide-true, true-range, range-true, wide-or-range, wide-unfit}
+use Rattle.divide.proofs.DivLaws.{compared-first, refused-is, unsigned-known, signed-known}
 use Rattle.divide.proofs.Manual.{quotient-fits}
 use Rattle.divide.proofs.Answers.{not-by-zero, quotient-is}
 
@@ -24,37 +23,6 @@ use Rattle.divide.proofs.Answers.{not-by-zero, quotient-is}
 pub first-two : (n : ℕ) (s : Bool) (d b : ℕ) → 0 < n → d < 2 ^ (n + n) → b < 2 ^ n → atFirst n s d b ≡ applies ZeroDivisor n s d b || applies TooWide n s d b
 first-two n true d b hn hd hb = compared-first n true d b (signed-known n d b false hn hd hb)
 first-two n false d b hn hd hb = compared-first n false d b (unsigned-known n d b)
-
--- sign range is from 2 ^ (n - 1) to below 2 ^ n
-range-true : (n q : ℕ) → signRange n q ≡ true → (top n ≤ q) × (q < 2 ^ n)
-range-true n q e =
-    let ends = and-eq-true-iff (leb (top n) q) (leb q (2 ^ n - 1)) .0 e in
-    (leb-true (top n) q (ends .0), omega (arith, leb-true q (2 ^ n - 1) (ends .1), pow-pos n))
-
-true-range : (n q : ℕ) → top n ≤ q → q < 2 ^ n → signRange n q ≡ true
-true-range n q low high = rw (le-leb (top n) q low, le-leb q (2 ^ n - 1) (omega arith))
-
--- what is not below the top bit is too wide or in sign range
-wide-or-range : (n q : ℕ) → 0 < n → not (ltb q (top n)) ≡ tooWide n q || signRange n q
-wide-or-range n q hn = by (ltb q (top n)) (tooWide n q) (signRange n q) refl refl refl
-  where
-    by : (x w r : Bool) → ltb q (top n) ≡ x → tooWide n q ≡ w → signRange n q ≡ r → not x ≡ w || r
-    by true true r ex ew er = absurd (omega (arith, ltb-true q (top n) ex, wide-true n q ew, top-twice n hn))
-    by true false true ex ew er = absurd (omega (arith, ltb-true q (top n) ex, range-true n q er .0))
-    by true false false ex ew er = refl
-    by false true r ex ew er = refl
-    by false false true ex ew er = refl
-    by false false false ex ew er = absurd (true≢false (sym (true-range n q (ltb-false q (top n) ex) (wide-false n q ew)) ∙ er))
-
--- an unsigned quotient fits exactly if it is not too wide
-wide-unfit : (n q : ℕ) → not (ltb q (2 ^ n)) ≡ tooWide n q
-wide-unfit n q = by (ltb q (2 ^ n)) (tooWide n q) refl refl
-  where
-    by : (x w : Bool) → ltb q (2 ^ n) ≡ x → tooWide n q ≡ w → not x ≡ w
-    by true true ex ew = absurd (omega (arith, ltb-true q (2 ^ n) ex, wide-true n q ew))
-    by true false ex ew = refl
-    by false true ex ew = refl
-    by false false ex ew = absurd (omega (arith, ltb-false q (2 ^ n) ex, wide-false n q ew))
 
 not-zero : (b : ℕ) → eqb b 0 ≡ true → not (eqb b 0) ≡ true → ⊥
 not-zero b e f = true≢false (sym e ∙ not-true (eqb b 0) f)
@@ -198,10 +166,12 @@ module _ (n : ℕ) (s : Bool) (d b : ℕ) (hn : 0 < n) where
             let same : refusalOf n s d b ≡ why = cc in
             subst (λ (w : Refusal). applies w n s d b ≡ true) same told
 
--- REP changes no refusal
-pub rep-tells-alike : (n : ℕ) (s : Bool) (d b : ℕ) → 0 < n → (f : Flags) (rep other : Bool) (why : Refusal)
-    → divide n s rep d b f .outcome ≡ refused why → divide n s other d b f .outcome ≡ refused why
-rep-tells-alike n s d b hn f rep other why h = refused-for n s d b hn f other why .1 (refused-for n s d b hn f rep why .0 h)
+-- REP changes nothing of a refusal
+pub rep-refuses-alike : (n : ℕ) (s : Bool) (d b : ℕ) → 0 < n → (f : Flags) (rep other : Bool) (why : Refusal)
+    → divide n s rep d b f .outcome ≡ refused why → divide n s other d b f ≡ divide n s rep d b f
+rep-refuses-alike n s d b hn f rep other why h =
+    let e = refused-for n s d b hn f rep why .0 h in
+    refused-whole n s d b hn f other why e ∙ sym (refused-whole n s d b hn f rep why e)
 
 -- an unsigned divide is never refused for sign range
 pub never-unsigned : (n d b : ℕ) → 0 < n → (f : Flags) (rep : Bool) → divide n false rep d b f .outcome ≡ refused SignRange → ⊥
@@ -218,7 +188,7 @@ module _ (n : ℕ) (s : Bool) (d b : ℕ) (hn : 0 < n) (f : Flags) (rep : Bool) 
   pub division-too-wide : divide n s rep d b f .outcome ≡ refused TooWide ↔ 2 ^ n ≤ natAbs q
   division-too-wide =
       let told = refused-for n s d b hn f rep TooWide in
-      (λ e. omega (arith, far-is, wide-true n _ (wide-is n s d b (told .0 e) .1)), λ l. told .1 (rw (there, far-is, le-leb (2 ^ n) (natAbs q) l)))
+      (λ e. omega (arith, far-is, wide-true n _ (wide-is n s d b (told .0 e) .1)), λ l. told .1 (rw (there, far-is, true-wide n (natAbs q) l)))
 
   pub division-sign-range : divide n s rep d b f .outcome ≡ refused SignRange ↔ (s ≡ true) × (top n ≤ natAbs q) × (natAbs q < 2 ^ n)
   division-sign-range =
