@@ -1,12 +1,12 @@
 -- The first row that applies, and the status that is given. Assumes nothing.
 use mathlib.Core.Path.{_≡_, refl, sym, _∙_}
-use mathlib.Core.Bool.{Bool, true, false, not, cond, _&&_, _||_, or-true, false≢true}
+use mathlib.Core.Bool.{Bool, true, false, not, cond, _&&_, false≢true}
 use mathlib.Core.List.{List, [], _∷_}
-use mathlib.Core.Logic.{_↔_}
+use mathlib.Core.Logic.{inl, inr, _↔_}
 use Prim.Native.Nat.{ℕ}
 use lib.Dec.{eqb}
-use borrow.Author.Tests.{eqb-true, eqb-false, eq-eqb, not-true}
-use Rattle.answer.specs.Table.{Given, among}
+use borrow.Author.Tests.{eqb-true, eqb-false, not-true}
+use Rattle.answer.specs.Table.{Given, OneOf}
 
 pub both : (a b : Bool) → a && b ≡ true → (a ≡ true) × (b ≡ true)
 both true b h = (refl, h)
@@ -54,12 +54,11 @@ abbrev pub numbers : List (ℕ × Bool) → List ℕ
 numbers [] = []
 numbers (row ∷ rows) = row .0 ∷ numbers rows
 
-pub first-among : (rows : List (ℕ × Bool)) → among (firstOf rows) (0 ∷ numbers rows) ≡ true
-first-among [] = refl
-first-among ((j, true) ∷ rows) = rw (eq-eqb j j refl) (or-true (eqb j 0))
-first-among ((j, false) ∷ rows) = by (eqb (firstOf rows) 0) (eqb (firstOf rows) j) (among (firstOf rows) (numbers rows)) (first-among rows)
+pub first-one-of : (rows : List (ℕ × Bool)) → OneOf (firstOf rows) (0 ∷ numbers rows)
+first-one-of [] = inl refl
+first-one-of ((j, true) ∷ rows) = inr (inl refl)
+first-one-of ((j, false) ∷ rows) = by (first-one-of rows)
   where
-    by : (a b c : Bool) → a || c ≡ true → a || (b || c) ≡ true
-    by true b c e = refl
-    by false true c e = refl
-    by false false c e = e
+    by : OneOf (firstOf rows) (0 ∷ numbers rows) → OneOf (firstOf rows) (0 ∷ j ∷ numbers rows)
+    by (inl e) = inl e
+    by (inr h) = inr (inr h)

@@ -1,5 +1,5 @@
 -- The status of a raw request is that of the first row of the table that applies. Assumes nothing.
-use mathlib.Core.Path.{_≡_, refl, sym, ap, _∙_}
+use mathlib.Core.Path.{_≡_, refl, sym, ap, subst, _∙_}
 use mathlib.Core.Bool.{Bool, true, false, not, cond, _&&_, _||_, Bool·beq, false≢true}
 use mathlib.Core.List.{[], _∷_}
 use mathlib.Core.Logic.{_↔_}
@@ -31,9 +31,9 @@ use Rattle.multiply.specs.Routines.{Multiplied}
 use Rattle.multiply.specs.Multiply.{multiply}
 use Rattle.answer.specs.Charted.{bits, aluOf, multipliedBy, ofOutcome, ofDivided, chartedBy, charted}
 use Rattle.answer.specs.Asked.{Raw, zeros, ofJudged, asked}
-use Rattle.answer.specs.Table.{Given, unlisted, wrongMode, widthBy, xBits, yBits, tooLarge, refusedFor, rows, among}
+use Rattle.answer.specs.Table.{Given, unlisted, wrongMode, widthBy, xBits, yBits, tooLarge, refusedFor, rows, OneOf}
 use Rattle.answer.proofs.Agreement.{divides, agrees, agreed}
-use Rattle.answer.proofs.Rows.{both, firstOf, first-given, first-among}
+use Rattle.answer.proofs.Rows.{both, firstOf, first-given, first-one-of}
 
 -- ---- the limits
 
@@ -168,8 +168,8 @@ module _ (r : Raw) where
   statuses k = let first = first-given (rows r) refl k in (λ e. first .0 (sym by-table ∙ e), λ g. by-table ∙ first .1 g)
 
   -- no other status exists
-  pub no-other : among (asked r .status) (0 ∷ 3 ∷ 4 ∷ 5 ∷ 6 ∷ 8 ∷ 9 ∷ []) ≡ true
-  no-other = rw by-table (first-among (rows r))
+  pub no-other : OneOf (asked r .status) (0 ∷ 3 ∷ 4 ∷ 5 ∷ 6 ∷ 8 ∷ 9 ∷ [])
+  no-other = subst (λ (k : ℕ). OneOf k (0 ∷ 3 ∷ 4 ∷ 5 ∷ 6 ∷ 8 ∷ 9 ∷ [])) (sym by-table) (first-one-of (rows r))
 
   -- after 1 to 5 the rest is zeros
   pub rest-zeros : 1 ≤ asked r .status → asked r .status ≤ 5 → asked r ≡ zeros (asked r .status)

@@ -2,6 +2,7 @@
 use mathlib.Core.Path.{_≡_}
 use mathlib.Core.Bool.{Bool, true, false, not, cond, _&&_, _||_}
 use mathlib.Core.List.{List, [], _∷_}
+use mathlib.Core.Logic.{_⊎_}
 use Prim.Native.Nat.{ℕ, _+_, _^_}
 use lib.Bits.{bitAnd}
 use lib.Dec.{leb, ltb, eqb}
@@ -65,6 +66,6 @@ rows r =
     ∷ []
 
 -- one of the numbers listed
-abbrev pub among : ℕ → List ℕ → Bool
-among k [] = false
-among k (j ∷ js) = eqb k j || among k js
+abbrev pub OneOf : ℕ → List ℕ → Type 0
+OneOf k [] = ⊥
+OneOf k (j ∷ js) = (k ≡ j) ⊎ OneOf k js

@@ -13,10 +13,10 @@ use Rattle.text.specs.declared.fields.Read.the-variants.{Fields as OfFields, Le
 use Rattle.text.proofs.Plain.{read-plainly}
 use Rattle.answer.specs.Charted.{refusalStatus}
 use Rattle.answer.specs.Asked.{zeros, asked}
-use Rattle.answer.specs.Table.{Given, rows, among}
+use Rattle.answer.specs.Table.{Given, rows, OneOf}
 use Rattle.answer.specs.Refused.{Refusal, ZeroDivisor, TooWide, SignRange, RefusedDivide, refusal}
 use Rattle.answer.specs.declared.answer.Answer.{Answer}
-use Rattle.answer.proofs.Rows.{firstOf, first-given, first-among}
+use Rattle.answer.proofs.Rows.{firstOf, first-given, first-one-of}
 use Rattle.answer.proofs.Table.{by-table, rest-zeros}
 use Rattle.answer.proofs.Demand1.{demand-1}
 use Rattle.line.specs.One.{answerBy, answerOf, statusIn}
@@ -56,11 +56,12 @@ module _ (line : List ℕ) where
       (λ e. first .0 (sym row ∙ e), λ g. row ∙ first .1 g)
 
   -- no other status exists
-  pub line-no-other : among (answerOf line .status) (0 ∷ 1 ∷ 2 ∷ 3 ∷ 4 ∷ 5 ∷ 6 ∷ 8 ∷ 9 ∷ []) ≡ true
-  line-no-other = rw first-row (first-among (lineRows line))
+  pub line-no-other : OneOf (answerOf line .status) (0 ∷ 1 ∷ 2 ∷ 3 ∷ 4 ∷ 5 ∷ 6 ∷ 8 ∷ 9 ∷ [])
+  line-no-other = subst (λ (k : ℕ). OneOf k (0 ∷ 1 ∷ 2 ∷ 3 ∷ 4 ∷ 5 ∷ 6 ∷ 8 ∷ 9 ∷ [])) (sym first-row) (first-one-of (lineRows line))
 
-  pub no-other : (room : ℕ) → among (statusIn room line) (0 ∷ 7 ∷ 1 ∷ 2 ∷ 3 ∷ 4 ∷ 5 ∷ 6 ∷ 8 ∷ 9 ∷ []) ≡ true
-  no-other room = rw first-row (first-among (table room line))
+  pub no-other : (room : ℕ) → OneOf (statusIn room line) (0 ∷ 7 ∷ 1 ∷ 2 ∷ 3 ∷ 4 ∷ 5 ∷ 6 ∷ 8 ∷ 9 ∷ [])
+  no-other room =
+      subst (λ (k : ℕ). OneOf (cond (ltb room 19) 7 k) (0 ∷ 7 ∷ 1 ∷ 2 ∷ 3 ∷ 4 ∷ 5 ∷ 6 ∷ 8 ∷ 9 ∷ [])) (sym first-row) (first-one-of (table room line))
 
   -- after 1 to 5 the rest is zeros
   pub line-zeros : 1 ≤ answerOf line .status → answerOf line .status ≤ 5 → answerOf line ≡ zeros (answerOf line .status)
