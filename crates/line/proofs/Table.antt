@@ -76,17 +76,15 @@ module _ (line : List ℕ) where
   pub as-asked : length line ≡ 20 → allDigits line ≡ true → answerOf line ≡ asked (rawIn line)
   as-asked long digits = rw (eq-eqb (length line) 20 long, digits) at plainly
 
-  -- a refused divide stands in 20 digits
-  read : (why : Refusal) → answerOf line .status ≡ refusalStatus why → (length line ≡ 20) × (allDigits line ≡ true)
-  read why e = by why e
-    where
-      rows-1-2 : not (eqb (length line) 20) ≡ false → not (allDigits line) ≡ false → (length line ≡ 20) × (allDigits line ≡ true)
-      rows-1-2 long digits = (eqb-true (length line) 20 (not-false (eqb (length line) 20) long), not-false (allDigits line) digits)
+  -- where rows 1 and 2 do not apply there are 20 digits
+  twenty-digits : not (eqb (length line) 20) ≡ false → not (allDigits line) ≡ false → (length line ≡ 20) × (allDigits line ≡ true)
+  twenty-digits one two = (eqb-true (length line) 20 (not-false (eqb (length line) 20) one), not-false (allDigits line) two)
 
-      by : (why : Refusal) → answerOf line .status ≡ refusalStatus why → (length line ≡ 20) × (allDigits line ≡ true)
-      by ZeroDivisor e = let g = line-statuses 6 .0 e in rows-1-2 (g .0) (g .1 .0)
-      by TooWide e = let g = line-statuses 8 .0 e in rows-1-2 (g .0) (g .1 .0)
-      by SignRange e = let g = line-statuses 9 .0 e in rows-1-2 (g .0) (g .1 .0)
+  -- and a refused divide stands in them
+  read : (why : Refusal) → answerOf line .status ≡ refusalStatus why → (length line ≡ 20) × (allDigits line ≡ true)
+  read ZeroDivisor e = let g = line-statuses 6 .0 e in twenty-digits (g .0) (g .1 .0)
+  read TooWide e = let g = line-statuses 8 .0 e in twenty-digits (g .0) (g .1 .0)
+  read SignRange e = let g = line-statuses 9 .0 e in twenty-digits (g .0) (g .1 .0)
 
   -- demand 1: the status of a reason, 6, 8 or 9, exactly for a line with a divide that is refused for it, and then the answer is its refusal
   pub line-demand-1 : (why : Refusal)
