@@ -1,7 +1,8 @@
 //! One call at a time: raw numbers in, an answer by the table of statuses out.
 
+use super::counts::Counts;
 use super::drawn::{inputs, named};
-use super::table;
+use super::table::{self, Row};
 use crate::asked::Asked;
 use crate::careful;
 use crate::sides::Numbers;
@@ -9,18 +10,20 @@ use hatchyarn::raw;
 use oracle::request::Operation;
 use std::hint::black_box;
 
-/// The rows of the table. An error says which answers differ.
-pub fn rows() -> impl Iterator<Item = Result<String, String>> {
-    Operation::all().map(|operation| {
-        let inputs = inputs(operation);
-        let ours = || black_box(sum(&inputs, raw::ask));
-        let theirs = || black_box(sum(&inputs, careful::ask));
-        if ours() != theirs() {
-            let (name, bits) = named(operation);
-            return Err(format!("{name} {bits}: the two sides answer differently"));
-        }
-        Ok(table::row(operation, || _ = ours(), || _ = theirs()))
-    })
+/// Prints the tables. An error says which answers differ.
+pub fn print() -> Result<(), String> {
+    table::print_beside(row)
+}
+
+fn row(operation: Operation, counts: Counts) -> Row {
+    let inputs = inputs(operation, counts);
+    let ours = || black_box(sum(&inputs, raw::ask));
+    let theirs = || black_box(sum(&inputs, careful::ask));
+    if ours() != theirs() {
+        let (name, bits) = named(operation);
+        return Err(format!("{name} {bits}: the two sides answer differently"));
+    }
+    Ok(table::beside(operation, || _ = ours(), || _ = theirs()))
 }
 
 /// Asks all and folds all that is answered, so that nothing can be left out.

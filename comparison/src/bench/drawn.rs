@@ -1,26 +1,18 @@
 //! The inputs of one operation, and what the tables call it.
 
+use super::counts::Counts;
 use crate::asked::Asked;
 use oracle::draw::Draw;
 use oracle::request::{Alu, Mode, Operation, Width};
 
 pub const INPUTS: usize = 4096;
 
-/// What an 8088's programmer has counts of. Both sides take a step for each.
-pub const MOST_SHIFTED: u32 = 31;
-
 /// Drawn from the operation's own numbers, so that a row does not depend on those before it.
-pub fn inputs(operation: Operation) -> Vec<Asked> {
+pub fn inputs(operation: Operation, counts: Counts) -> Vec<Asked> {
     let (op, mode) = operation.code();
     let mut draw = Draw::new(u64::from(op) << 8 | u64::from(mode));
-    let mut one = || {
-        let mut asked = Asked::from(draw.request(&[operation]));
-        if matches!(operation, Operation::Alu(alu, _) if alu.counts()) {
-            asked.y = draw.below(MOST_SHIFTED + 1) as u16;
-        }
-        asked
-    };
-    (0..INPUTS).map(|_| one()).collect()
+    let one = |_| Asked::from(counts.request(&mut draw, &[operation]));
+    (0..INPUTS).map(one).collect()
 }
 
 pub fn named(operation: Operation) -> (String, u32) {

@@ -1,6 +1,7 @@
 //! The port and MartyPC's Rust, timed on the same job. Times are told, never judged.
 
 pub mod calls;
+mod counts;
 mod drawn;
 mod files;
 #[cfg(feature = "functions")]
@@ -8,4 +9,4 @@ pub mod functions;
 mod memory;
 pub mod programs;
 mod rounds;
-pub mod table;
+mod table;

@@ -1,12 +1,15 @@
 //! Whole programs on the same files: the port's, and the filter over MartyPC's functions.
 
-use super::files::{self, KINDS, LINES};
+use super::files::{self, KINDS};
 use super::memory;
 use super::rounds::in_turn;
 use std::fs::{self, File};
 use std::io::{self, Read};
 use std::path::{Path, PathBuf};
 use std::process::{Command, Stdio};
+
+/// Lines in each file.
+const LINES: u64 = 10_000_000;
 
 const ROUNDS: usize = 7;
 const LONG_LINE: u64 = 100_000_000;
@@ -38,7 +41,7 @@ impl Programs {
         let mut made = Vec::new();
         for (name, kind) in KINDS {
             let path = self.folder.join(format!("{kind:?}").to_lowercase());
-            files::make(kind, &path).map_err(|error| self.told(&path, error))?;
+            files::make(kind, LINES, &path).map_err(|error| self.told(&path, error))?;
             self.print_row(name, &path)
                 .map_err(|error| self.told(&path, error))?;
             made.push(path);

@@ -1,7 +1,8 @@
-//! A table of times by the operation: nanoseconds a call on each side.
+//! Tables of times by the operation, in nanoseconds a call.
 
-use super::drawn::{named, INPUTS, MOST_SHIFTED};
-use super::rounds::in_turn;
+use super::counts::{has_count, Counts, FULL, USUAL};
+use super::drawn::{named, INPUTS};
+use super::rounds::{self, Spread};
 use oracle::request::Operation;
 use std::convert::Infallible;
 use std::time::Instant;
@@ -11,14 +12,38 @@ const PASSES: usize = 2;
 const ROUNDS: usize = 201;
 const CALLS: usize = INPUTS * PASSES;
 
-/// Prints the table, each row as soon as it is measured.
-pub fn print(rows: impl Iterator<Item = Result<String, String>>) -> Result<(), String> {
+/// A line of a table, or where the two sides differ.
+pub type Row = Result<String, String>;
+
+/// Prints the two tables of both sides beside each other: all operations, then the shifts and
+/// rotates again with longer counts.
+pub fn print_beside(row: impl Fn(Operation, Counts) -> Row) -> Result<(), String> {
+    let columns = ["Hatchyarn", "MartyPC's Rust", "ratio"].map(String::from);
+    let turns = "the two in turn";
+    let inputs = format!("counts of shifts {USUAL}, divides mostly accepted");
+    let rows = Operation::all().map(|operation| row(operation, USUAL));
+    print(&inputs, turns, &columns, rows)?;
+    println!();
+    let inputs = format!("counts of shifts {FULL}");
+    let shifts = Operation::all().filter(has_count);
+    let rows = shifts.map(|operation| row(operation, FULL));
+    print(&inputs, turns, &columns, rows)
+}
+
+/// Prints a table, each row as soon as it is measured.
+pub fn print(
+    inputs: &str,
+    turns: &str,
+    columns: &[String],
+    rows: impl Iterator<Item = Row>,
+) -> Result<(), String> {
     println!(
-        "{INPUTS} drawn inputs for each row, counts of shifts 0 to {MOST_SHIFTED}, divides mostly \
-         accepted; {ROUNDS} rounds of {CALLS} calls, the two in turn; nanoseconds a call, median \
-         (lowest to highest).\n\n\
-         | operation | bits | Hatchyarn | MartyPC's Rust | ratio |\n\
-         |---|---|---|---|---|"
+        "{INPUTS} drawn inputs for each row, {inputs}; {ROUNDS} rounds of {CALLS} calls, {turns}; \
+         nanoseconds a call, median (lowest to highest).\n\n\
+         | operation | bits | {} |\n\
+         |---|---{}|",
+        columns.join(" | "),
+        "|---".repeat(columns.len())
     );
     for row in rows {
         println!("{}", row?);
@@ -26,13 +51,24 @@ pub fn print(rows: impl Iterator<Item = Result<String, String>>) -> Result<(), S
     Ok(())
 }
 
-/// Measures both sides of an operation. A pass asks each of its inputs once.
+/// Measures both sides of an operation.
 #[inline(always)]
-pub fn row(operation: Operation, ours: impl Fn(), theirs: impl Fn()) -> String {
-    let Ok([ours, theirs]) = in_turn(ROUNDS, || timed(&ours), || timed(&theirs));
-    let (name, bits) = named(operation);
+pub fn beside(operation: Operation, ours: impl Fn(), theirs: impl Fn()) -> String {
+    let [ours, theirs] = in_turn(ours, theirs);
     let ratio = ours.median / theirs.median;
-    format!("| {name} | {bits} | {ours:.1} | {theirs:.1} | {ratio:.2} |")
+    row(operation, &format!("{ours:.1} | {theirs:.1} | {ratio:.2}"))
+}
+
+pub fn row(operation: Operation, cells: &str) -> String {
+    let (name, bits) = named(operation);
+    format!("| {name} | {bits} | {cells} |")
+}
+
+/// The nanoseconds a call of two passes. A pass asks each of its inputs once.
+#[inline(always)]
+pub fn in_turn(one: impl Fn(), other: impl Fn()) -> [Spread; 2] {
+    let Ok(times) = rounds::in_turn(ROUNDS, || timed(&one), || timed(&other));
+    times
 }
 
 #[inline(always)]

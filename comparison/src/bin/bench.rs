@@ -1,9 +1,9 @@
 //! The program `bench`: prints Markdown tables of times. `./bench` in the top folder starts it.
 
+use comparison::bench::calls;
 #[cfg(feature = "functions")]
 use comparison::bench::functions;
 use comparison::bench::programs::Programs;
-use comparison::bench::{calls, table};
 use std::process::ExitCode;
 
 const HELP: &str = "\
@@ -22,8 +22,8 @@ fn main() -> ExitCode {
     let words: Vec<&str> = arguments.iter().map(String::as_str).collect();
     let measured = match words[..] {
         #[cfg(feature = "functions")]
-        ["functions"] => table::print(functions::rows()),
-        ["calls"] => table::print(calls::rows()),
+        ["functions"] => functions::print(),
+        ["calls"] => calls::print(),
         ["programs", ours, theirs, folder] => Programs {
             ours: ours.into(),
             theirs: theirs.into(),

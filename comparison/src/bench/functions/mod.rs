@@ -8,22 +8,23 @@ pub mod port;
 mod processor;
 mod told;
 
+use super::counts::Counts;
+use super::table::{self, Row};
 use oracle::request::{Operation, Width};
 use pair::Pair;
 
-/// A line of the table, or where the two sides differ.
-type Row = Result<String, String>;
+/// Prints the tables. An error says where the two sides differ.
+pub fn print() -> Result<(), String> {
+    table::print_beside(row)
+}
 
-/// The rows of the table.
-pub fn rows() -> impl Iterator<Item = Row> {
-    Operation::all().map(|operation| {
-        let pair = Pair::new(operation);
-        match operation {
-            Operation::Alu(alu, Width::Byte) => leaves::byte(&pair, alu),
-            Operation::Alu(alu, Width::Word) => leaves::word(&pair, alu),
-            Operation::Multiply(mode) => processor::multiply(&pair, mode),
-            Operation::Divide(mode) => processor::divide(&pair, mode),
-            Operation::Decimal(decimal) => processor::adjust(&pair, decimal),
-        }
-    })
+fn row(operation: Operation, counts: Counts) -> Row {
+    let pair = Pair::new(operation, counts);
+    match operation {
+        Operation::Alu(alu, Width::Byte) => leaves::byte(&pair, alu),
+        Operation::Alu(alu, Width::Word) => leaves::word(&pair, alu),
+        Operation::Multiply(mode) => processor::multiply(&pair, mode),
+        Operation::Divide(mode) => processor::divide(&pair, mode),
+        Operation::Decimal(decimal) => processor::adjust(&pair, decimal),
+    }
 }

@@ -3,6 +3,7 @@
 use super::given::Flags;
 use super::told::Told;
 use crate::asked::Asked;
+use crate::bench::counts::Counts;
 use crate::bench::{drawn, table};
 use crate::sides::{digits, Numbers};
 use oracle::request::Operation;
@@ -39,8 +40,8 @@ pub struct Pair {
 }
 
 impl Pair {
-    pub fn new(operation: Operation) -> Pair {
-        let asked = drawn::inputs(operation);
+    pub fn new(operation: Operation, counts: Counts) -> Pair {
+        let asked = drawn::inputs(operation, counts);
         let inputs = asked.iter().copied().map(Input::from).collect();
         Pair {
             operation,
@@ -64,7 +65,7 @@ impl Pair {
             }
         }
         let (ours, theirs) = (|| pass(&self.inputs, &ours), || pass(&self.inputs, &theirs));
-        Ok(table::row(self.operation, ours, theirs))
+        Ok(table::beside(self.operation, ours, theirs))
     }
 }
 
@@ -93,6 +94,7 @@ mod tests {
     use super::super::given::ResultCoa;
     use super::super::martypc;
     use super::*;
+    use crate::bench::counts::USUAL;
     use oracle::request::{Alu, Width};
 
     #[test]
@@ -103,7 +105,7 @@ mod tests {
         let wrong = |input: &Input, out: &mut MaybeUninit<ResultCoa<u8>>| {
             martypc::alu_adc(out, input.x as u8, input.y as u8, input.carry);
         };
-        let pair = Pair::new(Operation::Alu(Alu::Add, Width::Byte));
+        let pair = Pair::new(Operation::Alu(Alu::Add, Width::Byte), USUAL);
         let told = pair.row(wrong, right).unwrap_err();
         assert!(told.starts_with("0000"), "{told}");
         assert!(told.contains(" and MartyPC's 00"), "{told}");
