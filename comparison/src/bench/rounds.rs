@@ -1,8 +1,8 @@
-//! Rounds of two sides in turn, so that what else the machine does falls on both alike.
+//! Rounds of two jobs in turn, so that what else the machine does falls on both alike.
 
 use std::fmt;
 
-/// The times of one side's rounds, in the unit of whoever measures.
+/// The times of one job's rounds, in the unit of whoever measures.
 #[derive(Clone, Copy, Debug, PartialEq)]
 pub struct Spread {
     pub lowest: f64,
@@ -37,18 +37,18 @@ impl fmt::Display for Spread {
     }
 }
 
-/// Runs each side once unmeasured, then both in turn.
+/// Runs each job once unmeasured, then both in turn.
 pub fn in_turn<E>(
     rounds: usize,
-    mut ours: impl FnMut() -> Result<f64, E>,
-    mut theirs: impl FnMut() -> Result<f64, E>,
+    mut one: impl FnMut() -> Result<f64, E>,
+    mut other: impl FnMut() -> Result<f64, E>,
 ) -> Result<[Spread; 2], E> {
-    ours()?;
-    theirs()?;
+    one()?;
+    other()?;
     let mut times = [Vec::new(), Vec::new()];
     for _ in 0..rounds {
-        times[0].push(ours()?);
-        times[1].push(theirs()?);
+        times[0].push(one()?);
+        times[1].push(other()?);
     }
     Ok(times.map(Spread::of))
 }
@@ -60,9 +60,9 @@ mod tests {
     #[test]
     fn median_and_spread_leave_out_the_first() {
         let mut times = [9.0, 3.0, 1.0, 2.0].into_iter();
-        let ours = || Ok::<f64, ()>(times.next().unwrap());
-        let [ours, theirs] = in_turn(3, ours, || Ok(5.0)).unwrap();
-        assert_eq!(format!("{ours:.0}"), "2 (1 to 3)");
-        assert_eq!(theirs.median, 5.0);
+        let one = || Ok::<f64, ()>(times.next().unwrap());
+        let [one, other] = in_turn(3, one, || Ok(5.0)).unwrap();
+        assert_eq!(format!("{one:.0}"), "2 (1 to 3)");
+        assert_eq!(other.median, 5.0);
     }
 }

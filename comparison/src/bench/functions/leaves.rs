@@ -1,6 +1,6 @@
 //! ADD to SHL with A, of which both sides take the same arguments.
 
-use super::pair::Pair;
+use super::pair::Measured;
 use super::{martypc, port, Row};
 use oracle::request::Alu;
 
@@ -16,7 +16,7 @@ macro_rules! leaf {
 
 macro_rules! leaves {
     ($width:ident, $number:ty) => {
-        pub fn $width(pair: &Pair, alu: Alu) -> Row {
+        pub fn $width(pair: &impl Measured, alu: Alu) -> Row {
             match alu {
                 Alu::Add => leaf!(pair, $width::alu_add(i: i.x as $number, i.y as $number)),
                 Alu::Adc => leaf!(pair, $width::alu_adc(i: i.x as $number, i.y as $number, i.carry)),

@@ -1,5 +1,6 @@
 //! Bare functions: each of the port's beside MartyPC's of the same name, with nothing around them.
 
+mod by_count;
 pub mod given;
 mod leaves;
 pub mod martypc;
@@ -11,20 +12,25 @@ mod told;
 use super::counts::Counts;
 use super::table::{self, Row};
 use oracle::request::{Operation, Width};
-use pair::Pair;
+use pair::{Measured, Pair};
 
 /// Prints the tables. An error says where the two sides differ.
 pub fn print() -> Result<(), String> {
-    table::print_beside(row)
+    table::print_beside(beside)?;
+    println!();
+    by_count::print()
 }
 
-fn row(operation: Operation, counts: Counts) -> Row {
-    let pair = Pair::new(operation, counts);
+fn beside(operation: Operation, counts: Counts) -> Row {
+    row(operation, &Pair::new(operation, counts))
+}
+
+fn row(operation: Operation, pair: &impl Measured) -> Row {
     match operation {
-        Operation::Alu(alu, Width::Byte) => leaves::byte(&pair, alu),
-        Operation::Alu(alu, Width::Word) => leaves::word(&pair, alu),
-        Operation::Multiply(mode) => processor::multiply(&pair, mode),
-        Operation::Divide(mode) => processor::divide(&pair, mode),
-        Operation::Decimal(decimal) => processor::adjust(&pair, decimal),
+        Operation::Alu(alu, Width::Byte) => leaves::byte(pair, alu),
+        Operation::Alu(alu, Width::Word) => leaves::word(pair, alu),
+        Operation::Multiply(mode) => processor::multiply(pair, mode),
+        Operation::Divide(mode) => processor::divide(pair, mode),
+        Operation::Decimal(decimal) => processor::adjust(pair, decimal),
     }
 }

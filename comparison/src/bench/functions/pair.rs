@@ -4,7 +4,8 @@ use super::given::Flags;
 use super::told::Told;
 use crate::asked::Asked;
 use crate::bench::counts::Counts;
-use crate::bench::{drawn, table};
+use crate::bench::drawn;
+use crate::bench::table::{self, Row};
 use crate::sides::{digits, Numbers};
 use oracle::request::Operation;
 use std::hint::black_box;
@@ -33,6 +34,17 @@ impl From<Asked> for Input {
     }
 }
 
+/// What becomes of a function of both sides: a row of one table or of another.
+pub trait Measured {
+    /// An error says where the two sides differ. Both must write all of what they are given room for.
+    fn row<R: Told, S: Told>(
+        &self,
+        ours: impl Fn(&Input, &mut MaybeUninit<R>),
+        theirs: impl Fn(&Input, &mut MaybeUninit<S>),
+    ) -> Row;
+}
+
+/// The row of the two sides beside each other.
 pub struct Pair {
     operation: Operation,
     asked: Vec<Asked>,
@@ -50,13 +62,12 @@ impl Pair {
         }
     }
 
-    /// The row of the table. An error says where the two sides differ. Both must write all of what
-    /// they are given room for.
-    pub fn row<R: Told, S: Told>(
+    /// An error shows the first input that the two sides answer differently.
+    pub fn compare<R: Told, S: Told>(
         &self,
         ours: impl Fn(&Input, &mut MaybeUninit<R>),
         theirs: impl Fn(&Input, &mut MaybeUninit<S>),
-    ) -> Result<String, String> {
+    ) -> Result<(), String> {
         for (input, asked) in self.inputs.iter().zip(&self.asked) {
             let [ours, theirs] = [answer(input, *asked, &ours), answer(input, *asked, &theirs)];
             if ours != theirs {
@@ -64,7 +75,28 @@ impl Pair {
                 return Err(format!("{line}: {ours} and MartyPC's {theirs}"));
             }
         }
-        let (ours, theirs) = (|| pass(&self.inputs, &ours), || pass(&self.inputs, &theirs));
+        Ok(())
+    }
+
+    /// Asks one side each of the inputs once.
+    #[inline(always)]
+    pub fn pass<R>(&self, call: impl Fn(&Input, &mut MaybeUninit<R>)) {
+        let mut out = MaybeUninit::uninit();
+        for input in black_box(&self.inputs[..]) {
+            call(input, &mut out);
+            black_box(&mut out);
+        }
+    }
+}
+
+impl Measured for Pair {
+    fn row<R: Told, S: Told>(
+        &self,
+        ours: impl Fn(&Input, &mut MaybeUninit<R>),
+        theirs: impl Fn(&Input, &mut MaybeUninit<S>),
+    ) -> Row {
+        self.compare(&ours, &theirs)?;
+        let (ours, theirs) = (|| self.pass(&ours), || self.pass(&theirs));
         Ok(table::beside(self.operation, ours, theirs))
     }
 }
@@ -78,15 +110,6 @@ fn answer<R: Told>(
     call(input, &mut out);
     // SAFETY: the call has written all of it.
     unsafe { out.assume_init() }.told(asked)
-}
-
-#[inline(always)]
-fn pass<R>(inputs: &[Input], call: impl Fn(&Input, &mut MaybeUninit<R>)) {
-    let mut out = MaybeUninit::uninit();
-    for input in black_box(inputs) {
-        call(input, &mut out);
-        black_box(&mut out);
-    }
 }
 
 #[cfg(test)]

@@ -1,7 +1,7 @@
 //! Multiply, divide and the decimal adjusts, which take flags and read the parity table. MartyPC's
 //! have both in the processor; the port's are lent them.
 
-use super::pair::Pair;
+use super::pair::Measured;
 use super::{martypc, port, Row};
 use oracle::cpu_808x::PARITY_TABLE;
 use oracle::request::{Decimal, Mode, Width};
@@ -29,7 +29,7 @@ macro_rules! both {
     };
 }
 
-pub fn multiply(pair: &Pair, mode: Mode) -> Row {
+pub fn multiply(pair: &impl Measured, mode: Mode) -> Row {
     let (signed, rep) = (mode.signed, mode.rep);
     match mode.width {
         Width::Byte => both!(pair, mul8(i: i.x as u8, i.y as u8, signed, rep)),
@@ -37,7 +37,7 @@ pub fn multiply(pair: &Pair, mode: Mode) -> Row {
     }
 }
 
-pub fn divide(pair: &Pair, mode: Mode) -> Row {
+pub fn divide(pair: &impl Measured, mode: Mode) -> Row {
     let (signed, rep) = (mode.signed, mode.rep);
     match mode.width {
         Width::Byte => both!(pair, div8(i: i.x as u16, i.y as u8, signed, rep)),
@@ -45,7 +45,7 @@ pub fn divide(pair: &Pair, mode: Mode) -> Row {
     }
 }
 
-pub fn adjust(pair: &Pair, decimal: Decimal) -> Row {
+pub fn adjust(pair: &impl Measured, decimal: Decimal) -> Row {
     match decimal {
         Decimal::Aaa => both!(pair, aaa(i: i.x as u16)),
         Decimal::Aas => both!(pair, aas(i: i.x as u16)),
