@@ -1,6 +1,8 @@
 // The 8088's ALU operations, after cpu_common/alu.rs of MartyPC: one function for each width, named
-// as there with the width behind. No operation refuses and none asks anything of its caller.
+// as there with the width behind. No operation refuses and none asks anything of its caller. What they
+// share is in `at_once`, `last` and `step`.
 pub mod addition;
+pub mod at_once;
 pub mod last;
 pub mod result;
 pub mod rotate;

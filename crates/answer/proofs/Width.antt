@@ -1,41 +1,20 @@
 -- The digits of R and S above the width are 0. Assumes nothing.
 use mathlib.Core.Path.{_≡_, refl}
 use mathlib.Core.Bool.{Bool, true, false}
-use Prim.Native.Nat.{ℕ, zero, suc, _+_, _-_, _*_, _/_, _^_, _<_}
+use Prim.Native.Nat.{ℕ, _+_, _-_, _^_, _<_}
 use native.Mathlib.Nat.{mod-lt}
-use native.Mathlib.Omega.{arith}
 use lib.Pow.{pow-pos}
-use Rattle.flags.specs.Numbers.{bit, isSet, topSet}
+use Rattle.flags.specs.Numbers.{bit}
 use Rattle.flags.specs.declared.word.Flags.{Flags}
-use Rattle.alu.specs.Step.{Shift, Shl, Shr, Sar, Rol, Ror, Rcl, Rcr, Step, left, right, step, steps, before}
+use Rattle.alu.specs.Step.{Shl, Shr, Sar, Rol, Ror, Rcl, Rcr, before}
 use Rattle.alu.specs.Shift.{leftward, rightward, downward}
 use Rattle.alu.specs.Sum.{adc, sbb}
+use Rattle.alu.proofs.StepLaws.{steps-keep}
 use Rattle.multiply.proofs.CarryLaws.{wrapped-lt}
 use Rattle.divide.specs.Divide.{accepts, quotientOf, remainderOf, quotientReturned, divide}
 use Rattle.request.specs.declared.operation.Alu.{Alu}
 use Rattle.request.specs.declared.operation.Alu.the-variants as Ops
 use Rattle.answer.specs.Charted.{aluOf, ofDivided}
-
--- ---- n bits stay n bits
-
-right-keeps : (n : ℕ) (enters : Bool) (x : ℕ) → x < 2 ^ n → (bit enters * 2 ^ n + x) / 2 < 2 ^ n
-right-keeps n true x h = omega arith
-right-keeps n false x h = omega arith
-
-step-keeps : (n : ℕ) (shift : Shift) (s : Step) → s .value < 2 ^ n → step n shift s .value < 2 ^ n
-unfolding step left right
-step-keeps n Shl s h = mod-lt (s .value * 2 + 0) (pow-pos n)
-step-keeps n Rol s h = mod-lt (s .value * 2 + bit (topSet n (s .value))) (pow-pos n)
-step-keeps n Rcl s h = mod-lt (s .value * 2 + bit (s .carry)) (pow-pos n)
-step-keeps n Shr s h = right-keeps n false (s .value) h
-step-keeps n Sar s h = right-keeps n (topSet n (s .value)) (s .value) h
-step-keeps n Ror s h = right-keeps n (isSet 0 (s .value)) (s .value) h
-step-keeps n Rcr s h = right-keeps n (s .carry) (s .value) h
-
-steps-keep : (n : ℕ) (shift : Shift) (k : ℕ) (s : Step) → s .value < 2 ^ n → steps n shift k s .value < 2 ^ n
-unfolding steps
-steps-keep n shift zero s h = h
-steps-keep n shift (suc k) s h = step-keeps n shift (steps n shift k s) (steps-keep n shift k s h)
 
 -- ---- R of an ALU operation
 

@@ -26,7 +26,7 @@ bit-le true = omega arith
 bit-le false = omega arith
 
 -- a flag is its digit tested
-flag-of : (b : Bool) {d : ℕ} → d ≡ bit b → eqb d 1 ≡ b
+pub flag-of : (b : Bool) {d : ℕ} → d ≡ bit b → eqb d 1 ≡ b
 flag-of true e = ap (λ (x : ℕ). eqb x 1) e
 flag-of false e = ap (λ (x : ℕ). eqb x 1) e
 

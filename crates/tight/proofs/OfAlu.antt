@@ -1,13 +1,14 @@
 -- Each public function of `alu` has a tight contract. Assumes nothing.
 use mathlib.Core.Path.{refl}
 use Rattle.alu.proofs.addition
+use Rattle.alu.proofs.at_once
 use Rattle.alu.proofs.last
 use Rattle.alu.proofs.rotate
 use Rattle.alu.proofs.shift
 use Rattle.alu.proofs.step
 use Rattle.alu.proofs.subtraction
 use Rattle.tight.specs.Tight.{Tight}
-use Rattle.tight.proofs.Law.{plainly, through}
+use Rattle.tight.proofs.Law.{plainly, same, through}
 use Rattle.tight.proofs.Views.{c8-faithful, co8-faithful, coa8-faithful, coa16-faithful, co16-faithful, c16-faithful, step8-faithful, step16-faithful}
 
 module _ {M : Type 1} where
@@ -23,23 +24,35 @@ module _ {M : Type 1} where
   pub addition-alu-adc16 : Tight M addition.alu_adc16.signature addition.alu_adc16.clauses
   addition-alu-adc16 c g r s = plainly (c .𝓤) (λ e d. (through coa16-faithful e d, refl))
 
-  pub last-leftward8 : Tight M last.leftward8.signature last.leftward8.clauses
-  last-leftward8 c g r s = plainly (c .𝓤) (λ e d. (through co8-faithful e d, refl))
+  pub at-once-shl : Tight M at_once.shl.signature at_once.shl.clauses
+  at-once-shl c g r s = plainly (c .𝓤) (λ e d. (same e d, refl))
 
-  pub last-rightward8 : Tight M last.rightward8.signature last.rightward8.clauses
-  last-rightward8 c g r s = plainly (c .𝓤) (λ e d. (through co8-faithful e d, refl))
+  pub at-once-shr : Tight M at_once.shr.signature at_once.shr.clauses
+  at-once-shr c g r s = plainly (c .𝓤) (λ e d. (same e d, refl))
 
-  pub last-downward8 : Tight M last.downward8.signature last.downward8.clauses
-  last-downward8 c g r s = plainly (c .𝓤) (λ e d. (through c8-faithful e d, refl))
+  pub at-once-sar : Tight M at_once.sar.signature at_once.sar.clauses
+  at-once-sar c g r s = plainly (c .𝓤) (λ e d. (same e d, refl))
 
-  pub last-leftward16 : Tight M last.leftward16.signature last.leftward16.clauses
-  last-leftward16 c g r s = plainly (c .𝓤) (λ e d. (through co16-faithful e d, refl))
+  pub at-once-ror : Tight M at_once.ror.signature at_once.ror.clauses
+  at-once-ror c g r s = plainly (c .𝓤) (λ e d. (same e d, refl))
 
-  pub last-rightward16 : Tight M last.rightward16.signature last.rightward16.clauses
-  last-rightward16 c g r s = plainly (c .𝓤) (λ e d. (through co16-faithful e d, refl))
+  pub at-once-rol : Tight M at_once.rol.signature at_once.rol.clauses
+  at-once-rol c g r s = plainly (c .𝓤) (λ e d. (same e d, refl))
 
-  pub last-downward16 : Tight M last.downward16.signature last.downward16.clauses
-  last-downward16 c g r s = plainly (c .𝓤) (λ e d. (through c16-faithful e d, refl))
+  pub last-of-last : Tight M last.of_last.signature last.of_last.clauses
+  last-of-last c g r s = plainly (c .𝓤) (λ e d. (same e d, refl))
+
+  pub last-left-o8 : Tight M last.left_o8.signature last.left_o8.clauses
+  last-left-o8 c g r s = plainly (c .𝓤) (λ e d. (through co8-faithful e d, refl))
+
+  pub last-right-o8 : Tight M last.right_o8.signature last.right_o8.clauses
+  last-right-o8 c g r s = plainly (c .𝓤) (λ e d. (through co8-faithful e d, refl))
+
+  pub last-left-o16 : Tight M last.left_o16.signature last.left_o16.clauses
+  last-left-o16 c g r s = plainly (c .𝓤) (λ e d. (through co16-faithful e d, refl))
+
+  pub last-right-o16 : Tight M last.right_o16.signature last.right_o16.clauses
+  last-right-o16 c g r s = plainly (c .𝓤) (λ e d. (through co16-faithful e d, refl))
 
   pub rotate-alu-rol8 : Tight M rotate.alu_rol8.signature rotate.alu_rol8.clauses
   rotate-alu-rol8 c g r s = plainly (c .𝓤) (λ e d. (through co8-faithful e d, refl))
