@@ -2,6 +2,8 @@ pub mod SumLaws
 pub mod StepLaws
 pub mod TurnLaws
 pub mod CountLaws
+pub mod OneBitMore
 pub mod ClosedForms
+pub mod LongCounts
 pub mod AtOnceLaws
 pub mod WithC

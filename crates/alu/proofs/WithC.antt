@@ -12,7 +12,7 @@ use Rattle.alu.specs.Step.{Shl, Shr, Sar, Rol, Ror, Rcl, Rcr, Step, befo
 use Rattle.alu.specs.Shift.{ofLast, carryOnly}
 use Rattle.alu.proofs.StepLaws.{steps-keep}
 use Rattle.alu.proofs.ClosedForms.{from-above, from-below}
-use Rattle.alu.proofs.CountLaws.{above, below, shl-above, rcl-above, rcr-above, shr-below, sar-below, rol-carry, ror-carry}
+use Rattle.alu.proofs.OneBitMore.{above, below, shl-above, rcl-above, rcr-above, shr-below, sar-below, rol-carry, ror-carry}
 
 -- C above the value or below it, as the code masks it
 masked-above : (n : ℕ) (t : Step) → t .value < 2 ^ n → {w : ℕ} → w ≡ above n t → before (w % 2 ^ n) (not (eqb (bitAnd w (2 ^ n)) 0)) ≡ t
