@@ -1,4 +1,4 @@
-// The single steps, of which a shift or rotate makes as many as the count says.
+// A single step of a shift, which CORX and CORD make one at a time. A shift or rotate by a count is in `at_once`.
 ghost use mathlib.Core.Path.{_≡_};
 ghost use Rattle.alu.specs.Step.{left, right};
 ghost use Rattle.alu.specs.Views.{step8, step16};
