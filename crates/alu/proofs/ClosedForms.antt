@@ -54,6 +54,10 @@ halved y k =
     let digit : y * 2 / 2 ^ k / 2 ^ 0 % 2 ≡ y * 2 / 2 ^ k % 2 = ap (λ (d : ℕ). d % 2) (div-one (y * 2 / 2 ^ k)) in
     λ i. record { value = value i; carry = eqb (digit i) 1 }
 
+-- for k from 1 on, bit k of twice a number is bit k - 1 of the number
+pub last-out : (k x : ℕ) → isSet (suc k) (x * 2) ≡ isSet k x
+last-out k x = ap (λ (y : ℕ). eqb (y % 2) 1) (ap (λ (p : ℕ). x * 2 / p) (pow-suc 2 k) ∙ mul-div-mul-right x (2 ^ k) (lit< tt))
+
 -- with C above it a number of n bits is one of n + 1
 pub whole-lt : (n x : ℕ) (c : Bool) → x < 2 ^ n → bit c * 2 ^ n + x < 2 ^ suc n
 whole-lt n x true h = omega (arith, pow-suc 2 n)
@@ -80,7 +84,7 @@ module _ (n x k : ℕ) (hn : 0 < n) (hx : x < 2 ^ n) where
       ∙ from-above n (steps n Shl k (before x false)) (steps-keep n Shl k (before x false) hx)
       (sym (shl-value (suc n) x false more k) ∙ ap (λ (y : ℕ). steps (suc n) Shl k (before y false) .value) none ∙ sym (shl-above n hn (before x false) hx k)))
 
-  -- SHR: the number over 2 ^ k; C is the bit below it, which is bit k of twice the number
+  -- SHR: the number over 2 ^ k; C is the bit that last left, bit k of twice the number
   pub shr-closed : steps n Shr k (before x false) ≡ before (x / 2 ^ k) (isSet k (x * 2))
   shr-closed =
       let none : x * 2 ≡ below (before x false) = omega arith in
@@ -108,7 +112,7 @@ module _ (n x k : ℕ) (hn : 0 < n) (hx : x < 2 ^ n) where
       twice = omega (arith, over)
 
   module _ (c : Bool) where
-    -- RCL and RCR: the number with C above it, turned by what the count leaves of turns of n + 1 places
+    -- RCL and RCR: the number with C above it, turned left or right by k mod (n + 1)
     pub rcl-closed : steps n Rcl k (before x c) ≡ cAbove n (turned (k % suc n) (suc n - k % suc n) (bit c * 2 ^ n + x))
     rcl-closed =
         sym (from-above n (steps n Rcl k (before x c)) (steps-keep n Rcl k (before x c) hx)
@@ -119,7 +123,7 @@ module _ (n x k : ℕ) (hn : 0 < n) (hx : x < 2 ^ n) where
         sym (from-above n (steps n Rcr k (before x c)) (steps-keep n Rcr k (before x c) hx)
         (sym (ror-value (suc n) (bit c * 2 ^ n + x) false (whole-lt n x c hx) (omega arith) k) ∙ sym (rcr-above n hn (before x c) hx k)))
 
--- ROL and ROR: the number turned by what the count leaves of turns of n places; C is the bit that last came round
+-- ROL and ROR: the number turned left or right by k mod n; C is the bit that last came round, and clear where k is 0
 module _ (n x : ℕ) (hn : 0 < n) (hx : x < 2 ^ n) where
   pub rol-closed : (k : ℕ) → steps n Rol k (before x false) ≡ before (turned (k % n) (n - k % n) x) (ofLast k (isSet 0 (turned (k % n) (n - k % n) x)))
   unfolding steps

@@ -63,7 +63,7 @@ module _ (n x : ℕ) (hn : 0 < n) (hx : x < 2 ^ n) where
         by true = from-below (before (1 * (2 ^ n - 1)) true) (omega (arith, pow-suc 2 n, pow-pos n))
         by false = from-below (before (0 * (2 ^ n - 1)) false) (omega arith)
 
-    -- a full turn changes nothing, but C and O are set as by every last step
+    -- full turns, one or more, change nothing of the number; C and O are those of the last step, which a count of 0 does not make
     module _ (some : 0 < k) where
       left-last : (c : Bool) → leftO n k (before x c) ≡ record { result = x; carry = c; overflow = xor c (topSet n x) }
       left-last c = let o = sym (some-step k (xor c (topSet n x)) some) in λ i. record { result = x; carry = c; overflow = o i }

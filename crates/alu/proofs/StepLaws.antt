@@ -1,4 +1,4 @@
--- Shifts and rotates over the width n: a step of the code is a step of the definition, and so are its repeats and the flags of the last.
+-- Shifts and rotates over the width n: a single step of the code is one of the definition, steps keep n bits, and the flags of the last step are as the code tests them.
 -- Assumes nothing.
 use mathlib.Core.Path.{_≡_, refl, sym, ap, _∙_}
 use mathlib.Core.Bool.{Bool, true, false, not, xor, Bool·beq}

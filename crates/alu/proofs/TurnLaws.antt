@@ -23,7 +23,7 @@ none-turned m w = ap (λ (d : ℕ). d * 2 ^ m + w / 2 ^ 0) (mod-one w) ∙ omega
 pub all-turned : (m w : ℕ) → w < 2 ^ m → turned 0 m w ≡ w
 all-turned m w h = omega (arith, mod-eq-of-lt h, div-eq-of-lt h)
 
-pub turned-lt : (u k w : ℕ) → w < 2 ^ (u + k) → turned u k w < 2 ^ (u + k)
+turned-lt : (u k w : ℕ) → w < 2 ^ (u + k) → turned u k w < 2 ^ (u + k)
 turned-lt u k w h = omega (arith, pow-add 2 u k, digits-lt (mod-lt w (pow-pos k)) (shr-lt u k h))
 
 -- the digit that stands below moves above: one place more is turned

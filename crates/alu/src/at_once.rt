@@ -1,5 +1,6 @@
-// A number of some bits, shifted or rotated by a whole count at once. Where C is wanted, the number has
-// one bit more than the operation: above its value or below it, C is the bit that comes to stand there.
+// A number of 8, 9, 16 or 17 bits, shifted or rotated by a whole count at once. Where C is wanted, the
+// number has one bit more than its operation, above the value or below it: what stands there after the
+// move is C.
 ghost use mathlib.Core.Bool.{false};
 ghost use mathlib.Core.Path.{_≡_};
 ghost use Prim.Native.Nat.{min, _+_, _-_, _*_, _/_, _%_, _^_, _≤_, _<_};
@@ -42,7 +43,7 @@ pub fn shr(bits: u32, number: u64, count: u8) -> u64
     number >> places(bits, count)
 }
 
-// Of a number twice as wide, its upper and its lower half as they come, the bits from a place on.
+// The upper half is put above the lower; of that number, as many bits as a half has, from a place on.
 fn window(bits: u32, upper: u64, lower: u64, place: u32) -> u64
     requires { ⌜ (upper < 2 ^ bits) × (lower < 2 ^ bits) × (bits ≤ 17) × (place ≤ bits) ⌝ }
     ensures { λ r. ⌜ r ≡ (upper * 2 ^ bits + lower) / 2 ^ place % 2 ^ bits ⌝ }

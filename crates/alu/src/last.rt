@@ -8,7 +8,7 @@ use crate::result::ResultCo16;
 use flags::width::Width8;
 use flags::width::Width16;
 
-// A flag of the last step. A count of 0 makes none, and leaves the flag clear; a full turn is a step.
+// A flag of the last step. A count of 0 makes none, and clears the flag; a full turn makes one.
 pub fn of_last(count: u8, flag: bool) -> bool
     ensures { λ r. ⌜ r ≡ ofLast count flag ⌝ }
 {

@@ -1,4 +1,5 @@
-// ROL, RCL, ROR and RCR.
+// ROL, RCL, ROR and RCR. Through C, C is one bit more above the value; else it is the bit that last came
+// round, which stands in the result.
 ghost use mathlib.Core.Path.{_≡_};
 ghost use Rattle.alu.specs.Shift.{rol, rcl, ror, rcr};
 ghost use Rattle.alu.specs.Views.{co8, co16};

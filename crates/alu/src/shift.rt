@@ -1,4 +1,5 @@
-// SHL, SHL with A, SHR and SAR.
+// SHL, SHL with A, SHR and SAR. C is one bit more: above the value leftward, and rightward below it, for
+// which the value is doubled first.
 ghost use mathlib.Core.Path.{_≡_};
 ghost use Rattle.alu.specs.Shift.{shl, shlAf, shr, sar};
 ghost use Rattle.alu.specs.Views.{c8, c16, co8, co16, coa8, coa16};

@@ -45,10 +45,16 @@ impl ByCount {
     /// The cells of one side.
     #[inline(always)]
     fn cells<R>(&self, call: impl Fn(&Input, &mut MaybeUninit<R>)) -> String {
-        let [short, long] = table::in_turn(|| self.short.pass(&call), || self.long.pass(&call));
+        let [short, long] = table::in_turn(|| pass(&self.short, &call), || pass(&self.long, &call));
         let ratio = long.median / short.median;
         format!("{short:.1} | {long:.1} | {ratio:.2}")
     }
+}
+
+/// One loop for both counts, and not a copy for each: where a loop stands moves its time.
+#[inline(never)]
+fn pass<R>(pair: &Pair, call: impl Fn(&Input, &mut MaybeUninit<R>)) {
+    pair.pass(call);
 }
 
 impl Measured for ByCount {
@@ -70,6 +76,16 @@ mod tests {
     use super::super::martypc;
     use super::*;
     use oracle::request::{Alu, Width};
+
+    #[test]
+    fn a_row_has_a_cell_for_each_column() {
+        let call = |input: &Input, out: &mut MaybeUninit<ResultCo<u8>>| {
+            martypc::alu_rcl(out, input.x as u8, input.y as u8, input.carry);
+        };
+        let by_count = ByCount::new(Operation::Alu(Alu::Rcl, Width::Byte));
+        let row = by_count.row(call, call).unwrap();
+        assert_eq!(row.matches('|').count(), 2 + 6 + 1, "{row}");
+    }
 
     #[test]
     fn an_answer_that_is_wrong_for_the_long_count_alone_is_told() {
