@@ -97,15 +97,23 @@ enum hatchyarn_flag {
  *   SHL, ROL, ROR, RCL, RCR                      C, O       (a count of 0 clears them, but RCL and
  *   SHR, SAR                                     C           RCR give C back)
  *   unsigned multiply                            C, O
- *   signed multiply, divide, AAA, AAS, DAA, DAS  all six
+ *   signed multiply, AAA, AAS, DAA, DAS          all six
+ *   divide, done or refused                      all six
  *   AAD                                          P, Z, S
  *
  * So ADD to SHL_AF are what the chip's ALU does and not whole instructions: the flags P, Z and S of a
  * sum or a shift are left to the caller. They count no steps, and neither do DAA and DAS.
  *
- * After the statuses 3 to 5 all of it is 0. After a refused divide, whichever of HATCHYARN_ZERO_DIVISOR,
- * HATCHYARN_TOO_WIDE and HATCHYARN_SIGN_RANGE it is, the flags are those handed in, the steps are those up
- * to the trap, and r and s are 0. */
+ * After the statuses 3 to 5 all of it is 0. After a refused divide the steps are those up to the trap, r and
+ * s are 0, and the flags are those that the handler of the trap finds in the word that the chip pushes; its
+ * other bits are the caller's. C is clear. A, O, S, Z and P are those of a compare, left side less right:
+ *
+ *   HATCHYARN_ZERO_DIVISOR, HATCHYARN_TOO_WIDE   the first: the dividend's upper half with the divisor
+ *   HATCHYARN_SIGN_RANGE                         the last: the remainder of the dividend without its last
+ *                                                bit, doubled, plus that bit, with the divisor
+ *
+ * In a signed divide both operands are taken without their signs. S is bit 15 of the difference, so that it is
+ * clear at 8 bits. */
 struct hatchyarn_answer {
     uint16_t flags;
     uint16_t steps; /* of the microcode */

@@ -16,23 +16,24 @@ static void expect(bool held, const char *what)
 }
 
 static const char *const session = "11000000000000070002\n110200000000FF800001";
-static const char *const answers = "000001005100030001\n090000005F00000000\n";
+static const char *const answers = "000001005100030001\n090014005F00000000\n";
 
-/* Refused divides, with all flags handed in: of each width, signed and not, and under REP. */
+/* Refused divides of each width, signed and not, and under REP. All flags are handed in, and none of them is seen. */
 static const struct refused {
     const char *line, *answer;
     uint32_t dividend;
-    uint16_t divisor, steps;
+    uint16_t divisor, flags, steps;
     uint8_t mode, status;
 } refused[] = {
-    {"110008D5000000070000", "0608D5000900000000\n", 0x0007, 0, 9, 0x00, HATCHYARN_ZERO_DIVISOR},
-    {"110208D5000000070000", "0608D5001300000000\n", 0x0007, 0, 19, 0x02, HATCHYARN_ZERO_DIVISOR},
-    {"110708D5000000070000", "0608D5001300000000\n", 0x0007, 0, 19, 0x07, HATCHYARN_ZERO_DIVISOR},
-    {"110008D5000001000001", "0808D5000900000000\n", 0x0100, 1, 9, 0x00, HATCHYARN_TOO_WIDE},
-    {"110208D500007FFF0001", "0808D5001300000000\n", 0x7FFF, 1, 19, 0x02, HATCHYARN_TOO_WIDE},
-    {"110508D5000200000002", "0808D5000900000000\n", 0x20000, 2, 9, 0x05, HATCHYARN_TOO_WIDE},
-    {"110208D50000FF800001", "0908D5005F00000000\n", 0xFF80, 1, 95, 0x02, HATCHYARN_SIGN_RANGE},
-    {"110708D5000080000001", "0908D5009B00000000\n", 0x8000, 1, 155, 0x07, HATCHYARN_SIGN_RANGE},
+    {"110008D5000000070000", "060044000900000000\n", 0x0007, 0, 0x0044, 9, 0x00, HATCHYARN_ZERO_DIVISOR},
+    {"110208D5000000070000", "060044001300000000\n", 0x0007, 0, 0x0044, 19, 0x02, HATCHYARN_ZERO_DIVISOR},
+    {"110708D5000000070000", "060044001300000000\n", 0x0007, 0, 0x0044, 19, 0x07, HATCHYARN_ZERO_DIVISOR},
+    {"110008D5000001000001", "080044000900000000\n", 0x0100, 1, 0x0044, 9, 0x00, HATCHYARN_TOO_WIDE},
+    {"110208D500007FFF0001", "080004001300000000\n", 0x7FFF, 1, 0x0004, 19, 0x02, HATCHYARN_TOO_WIDE},
+    {"110508D5000200000002", "080044000900000000\n", 0x20000, 2, 0x0044, 9, 0x05, HATCHYARN_TOO_WIDE},
+    {"110208D500008000007F", "080810001700000000\n", 0x8000, 0x7F, 0x0810, 23, 0x02, HATCHYARN_TOO_WIDE},
+    {"110208D50000FF800001", "090014005F00000000\n", 0xFF80, 1, 0x0014, 95, 0x02, HATCHYARN_SIGN_RANGE},
+    {"110708D5000080000001", "090094009B00000000\n", 0x8000, 1, 0x0094, 155, 0x07, HATCHYARN_SIGN_RANGE},
 };
 enum { REFUSED = sizeof refused / sizeof *refused };
 
@@ -52,7 +53,7 @@ static void asks(void)
                && a.steps == 111 && a.r == 0x81 && a.s == 0, "FF81 / 01, signed");
     expect(hatchyarn_ask(HATCHYARN_OP_DIVIDE, signed8, HATCHYARN_FLAG_Z, 0xFF80, 1, &a)
                    == HATCHYARN_SIGN_RANGE
-               && is(&a, HATCHYARN_FLAG_Z, 95, 0, 0), "FF80 / 01, signed");
+               && is(&a, HATCHYARN_FLAG_A | HATCHYARN_FLAG_P, 95, 0, 0), "FF80 / 01, signed");
     expect(hatchyarn_ask(HATCHYARN_OP_MULTIPLY, HATCHYARN_MODE_WORD, 0, 0xFFFF, 0xFFFF, &a)
                    == HATCHYARN_DONE
                && a.r == 0xFFFE && a.s == 0x0001, "FFFF x FFFF");
@@ -117,7 +118,7 @@ static void refusals(void)
     for (const struct refused *each = refused; each < refused + REFUSED; each++) {
         struct hatchyarn_answer a;
         expect(hatchyarn_ask(HATCHYARN_OP_DIVIDE, each->mode, all, each->dividend, each->divisor, &a) == each->status
-                   && is(&a, all, each->steps, 0, 0), each->line);
+                   && is(&a, each->flags, each->steps, 0, 0), each->line);
         expect(hatchyarn_line((const uint8_t *)each->line, 20, out, sizeof out) == each->status
                    && memcmp(out, each->answer, HATCHYARN_ANSWER_BYTES) == 0, each->line);
         strcat(strcat(text, each->line), "\n");

@@ -19,6 +19,29 @@ pub struct Answer {
 
 /// Why there is no answer. A request made from an [`Operation`](crate::Operation) can only be
 /// refused as a divide; the others are for lines and numbers that come from elsewhere.
+///
+/// When the chip traps a divide it pushes its flags word, and the handler of the trap may read it. An
+/// emulator puts the flags of the refusal into its register before it pushes; the word's other bits are
+/// its own. No flag handed in is seen after a divide, so none has to be right:
+///
+/// ```
+/// use hatchyarn::{Flags, Operation, Refusal};
+///
+/// /// What the handler finds pushed, where the divide traps.
+/// fn pushed(register: u16, divide: Operation) -> Option<u16> {
+///     match divide.ask(Flags::NONE) {
+///         Err(Refusal::Divide { flags, .. }) => Some(register & !Flags::ALL.word() | flags.word()),
+///         _ => None,
+///     }
+/// }
+///
+/// let rights = |key, number| Operation::Divide8 { dividend: key, divisor: number, signed: true, rep: false };
+/// // 0007 / 00: the first compare is 00 - 00, which sets Z and P.
+/// assert_eq!(pushed(0xF202, rights(0x0007, 0x00)), Some(0xF246));
+/// // FF80 / 01: the last compare is 00 - 01, which sets A and P; C, which it would set too, is clear.
+/// assert_eq!(pushed(0xF202, rights(0xFF80, 0x01)), Some(0xF216));
+/// assert_eq!(pushed(0xF202, rights(0xFF81, 0x01)), None);
+/// ```
 #[derive(Clone, Copy, Debug, PartialEq, Eq, Hash)]
 #[non_exhaustive]
 pub enum Refusal {
@@ -36,7 +59,12 @@ pub enum Refusal {
     Divide {
         /// Which of the three it is.
         why: DivideRefusal,
-        /// Those handed in.
+        /// C is clear, and A, O, S, Z and P are those of a compare, left side less right. For
+        /// [`ZeroDivisor`](DivideRefusal::ZeroDivisor) and [`TooWide`](DivideRefusal::TooWide) it is
+        /// the first, of the dividend's upper half with the divisor. For
+        /// [`SignRange`](DivideRefusal::SignRange) it is the last, of the remainder of the dividend
+        /// without its last bit, doubled, plus that bit, with the divisor. In a signed divide both
+        /// operands are taken without their signs. S is bit 15 of the difference, so it is clear at 8 bits.
         flags: Flags,
         /// The steps up to the refusal.
         steps: u16,

@@ -18,15 +18,16 @@
 //! # Ok::<(), hatchyarn::Refusal>(())
 //! ```
 //!
-//! A divide that the chip traps is a [`Refusal`] and says why. This one would have the quotient -128:
+//! A divide that the chip traps is a [`Refusal`] and says why, with the flags that the handler of the
+//! trap finds. This one would have the quotient -128:
 //!
 //! ```
 //! use hatchyarn::{DivideRefusal, Flags, Operation, Refusal};
 //!
 //! let divide = Operation::Divide8 { dividend: 0xFF80, divisor: 0x01, signed: true, rep: false };
-//! let refusal = divide.ask(Flags::CARRY).unwrap_err();
-//! let why = DivideRefusal::SignRange;
-//! assert_eq!(refusal, Refusal::Divide { why, flags: Flags::CARRY, steps: 95 });
+//! let refusal = divide.ask(Flags::NONE).unwrap_err();
+//! let (why, flags) = (DivideRefusal::SignRange, Flags::AUX_CARRY | Flags::PARITY);
+//! assert_eq!(refusal, Refusal::Divide { why, flags, steps: 95 });
 //! assert_eq!(refusal.to_string(), "the divide is refused: the quotient does not fit with its sign");
 //! ```
 //!

@@ -31,7 +31,7 @@ const LONG: usize = 21;
 /// let requests = b"11000000000000070002\n110200000000FF800001\n";
 /// let mut answers = Vec::new();
 /// assert_eq!(hatchyarn::answer_all(&requests[..], &mut answers)?, 2);
-/// assert_eq!(answers, b"000001005100030001\n090000005F00000000\n");
+/// assert_eq!(answers, b"000001005100030001\n090014005F00000000\n");
 /// # Ok::<(), std::io::Error>(())
 /// ```
 pub fn answer_all(mut input: impl Read, mut output: impl Write) -> io::Result<u64> {

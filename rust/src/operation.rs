@@ -48,7 +48,7 @@ pub enum Adjust {
 /// `signed` chooses the signed instruction, IMUL or IDIV. `rep` stands for a REP prefix before the
 /// instruction, which makes the chip negate a product or a signed quotient.
 ///
-/// An unsigned multiply sets C and O, a signed one and every divide that is not refused all six flags; the
+/// An unsigned multiply sets C and O; a signed one and every divide, done or refused, all six flags. The
 /// rest stays as handed in. Signed operands are two's complement, so -128 is `0x80`:
 ///
 /// ```

@@ -166,17 +166,52 @@ impl Kind {
         steps as u16
     }
 
-    /// The divide is refused for this reason, with the flags handed in, and so is its line.
+    /// The flags after the trap, by docs/CHARTS.md: those of the first compare, or for sign range of the
+    /// last, in which no bit is shifted out.
+    fn flags(self, dividend: i64, divisor: i64, why: DivideRefusal) -> Flags {
+        let (dividend, right) = (dividend.abs(), divisor.abs());
+        let left = match why {
+            DivideRefusal::SignRange => dividend / 2 % right * 2 + dividend % 2,
+            _ => dividend >> self.bits,
+        };
+        self.compared(left, right)
+    }
+
+    /// A, O, S, Z and P of left less right, and C clear.
+    fn compared(self, left: i64, right: i64) -> Flags {
+        let (range, half) = (1 << self.bits, 1 << (self.bits - 1));
+        let signed = |side: i64| if side < half { side } else { side - range };
+        let difference = (left - right).rem_euclid(range);
+        let set = [
+            (Flags::AUX_CARRY, left % 16 < right % 16),
+            (
+                Flags::OVERFLOW,
+                !(-half..half).contains(&(signed(left) - signed(right))),
+            ),
+            (Flags::SIGN, difference >= 0x8000),
+            (Flags::ZERO, difference == 0),
+            (Flags::PARITY, (difference % 0x100).count_ones() % 2 == 0),
+        ];
+        let named = set.iter().filter(|(_, is_set)| *is_set);
+        named.fold(Flags::NONE, |flags, (flag, _)| flags | *flag)
+    }
+
+    /// The divide is refused for this reason, with the chip's flags whatever is handed in, and so is its
+    /// line.
     fn is_refused(self, dividend: i64, divisor: i64, why: DivideRefusal) {
         let divide = self.divide(dividend, divisor);
         let steps = self.steps(dividend, divisor, why);
-        for flags in [Flags::NONE, Flags::ALL] {
+        let flags = self.flags(dividend, divisor, why);
+        for handed_in in [Flags::NONE, Flags::ALL] {
             let refusal = Refusal::Divide { why, flags, steps };
-            assert_eq!(divide.ask(flags), Err(refusal), "{divide:?}");
+            assert_eq!(divide.ask(handed_in), Err(refusal), "{divide:?}");
             let (op, mode, x, y) = divide.numbers();
-            let word = flags.word();
-            let line = format!("{op:02X}{mode:02X}{word:04X}{x:08X}{y:04X}");
-            let written = format!("{:02X}{word:04X}{steps:04X}00000000\n", why.status());
+            let line = format!("{op:02X}{mode:02X}{:04X}{x:08X}{y:04X}", handed_in.word());
+            let written = format!(
+                "{:02X}{:04X}{steps:04X}00000000\n",
+                why.status(),
+                flags.word()
+            );
             assert_eq!(answer_line(line.as_bytes()), written.as_bytes(), "{line}");
         }
     }

@@ -1,5 +1,5 @@
--- Demand 1: status 6, 8 or 9 exactly for a divide that is admitted and to which its reason applies; it gives back the flags handed in, the
--- chart's steps and no result. Assumes nothing.
+-- Demand 1: status 6, 8 or 9 exactly for a divide that is admitted and to which its reason applies; it gives the chart's flags and steps,
+-- and no result. Assumes nothing.
 use mathlib.Core.Path.{_≡_, refl, sym, ap, subst, _∙_}
 use mathlib.Core.Bool.{Bool, true, false, not, cond, _||_, false≢true}
 use mathlib.Core.Logic.{_↔_}
@@ -12,7 +12,7 @@ use Rattle.flags.specs.Numbers.{isSet}
 use Rattle.flags.specs.Word.{wordOf, flagsOf, isFlags}
 use Rattle.flags.specs.declared.word.Flags.{Flags}
 use Rattle.flags.proofs.WordLaws.{is-masked}
-use Rattle.divide.specs.Divide.{applies, refusedSteps, divide}
+use Rattle.divide.specs.Divide.{applies, refusedFlags, refusedSteps, divide}
 use Rattle.divide.specs.declared.div.Refusal.{Refusal}
 use Rattle.divide.specs.declared.div.Refusal.the-variants.{ZeroDivisor, TooWide, SignRange}
 use Rattle.divide.proofs.Refusals.{refused-whole}
@@ -30,7 +30,7 @@ use Rattle.answer.proofs.Table.{statuses}
 -- ---- a refused divide is answered its refusal
 
 refused-is : (why : Refusal) (n : ℕ) (s rep : Bool) (d b : ℕ) (f : Flags) → 0 < n → applies why n s d b ≡ true
-    → ofDivided (divide n s rep d b f) ≡ record { status = refusalStatus why; flags = wordOf f; steps = refusedSteps n s d b; r = 0; s = 0 }
+    → ofDivided (divide n s rep d b f) ≡ record { status = refusalStatus why; flags = wordOf (refusedFlags n s d b f); steps = refusedSteps n s d b; r = 0; s = 0 }
 refused-is why n s rep d b f hn e = ap ofDivided (refused-whole n s d b hn f rep why e)
 
 some-width : (mode : ℕ) → 0 < widthBy mode
@@ -63,8 +63,8 @@ module _ (why : Refusal) (mode flags x y : ℕ) (refused : RefusedDivide why (ra
   answered : asked (raw 0x11 mode flags x y) ≡ refusal why (raw 0x11 mode flags x y)
   unfolding asked judged operationOf listed ops charted
   answered =
-      rw (le-ltb 0x07 mode (refused .mode), admitted, width, refused-is why (widthBy mode) (isSet 1 mode) (isSet 2 mode) x y (flagsOf flags) (some-width mode) (refused .reason))
-      (λ i. record { status = refusalStatus why; flags = kept i; steps = refusedSteps (widthBy mode) (isSet 1 mode) x y; r = 0; s = 0 })
+      rw (le-ltb 0x07 mode (refused .mode), admitted, width)
+      (refused-is why (widthBy mode) (isSet 1 mode) (isSet 2 mode) x y (flagsOf flags) (some-width mode) (refused .reason))
 
 -- ---- and those statuses are given to nothing else
 

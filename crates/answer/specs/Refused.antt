@@ -4,7 +4,8 @@ use mathlib.Core.Bool.{true}
 use Prim.Native.Nat.{_+_, _^_, _≤_, _<_}
 use lib.Bits.{bitAnd}
 use Rattle.flags.specs.Numbers.{isSet}
-use Rattle.divide.specs.Divide.{applies, refusedSteps}
+use Rattle.flags.specs.Word.{wordOf, flagsOf}
+use Rattle.divide.specs.Divide.{applies, refusedFlags, refusedSteps}
 pub use Rattle.divide.specs.declared.div.Refusal.{Refusal}
 pub use Rattle.divide.specs.declared.div.Refusal.the-variants.{ZeroDivisor, TooWide, SignRange}
 use Rattle.answer.specs.Charted.{refusalStatus}
@@ -22,12 +23,12 @@ pub record RefusedDivide (why : Refusal) (r : Raw) : Type 0 where
   pub flags : bitAnd (r .flags) 0x08D5 ≡ r .flags
   pub reason : applies why (widthBy (r .mode)) (isSet 1 (r .mode)) (r .x) (r .y) ≡ true
 
--- the status that tells why, 6, 8 or 9; the flags handed in, the chart's steps, and no result
+-- the status that tells why, 6, 8 or 9; the chart's flags and steps, and no result
 abbrev pub refusal : Refusal → Raw → Answer
 refusal why r =
     record {
       status = refusalStatus why;
-      flags = r .flags;
+      flags = wordOf (refusedFlags (widthBy (r .mode)) (isSet 1 (r .mode)) (r .x) (r .y) (flagsOf (r .flags)));
       steps = refusedSteps (widthBy (r .mode)) (isSet 1 (r .mode)) (r .x) (r .y);
       r = 0;
       s = 0;

@@ -36,10 +36,15 @@ module _ (n : ℕ) (s : AfterPre n) where
   pub goes-on : {a : CordAnswer} → a ≡ cord n (s .pre .tmpb) (s .pre .tmpa * 2 ^ n + s .pre .tmpc) (s .pre .steps + 2) → a ≡ onward
   goes-on = cord-of-pre n (s .dividend) (s .divisor) (s .rep) (s .some) (s .wide) (s .fits) (s .handed)
 
+  -- the right side of every compare
+  right : s .pre .tmpb ≡ divisorOf n true (s .divisor)
+  right = pre-divisor n (s .dividend) (s .divisor) (s .rep) (s .some) (s .wide) (s .fits) (s .handed)
+
   module _ {a : CordAnswer} (e : a ≡ onward) where
     pub refuses : (f : Flags) → a .outcome ≡ Cord.refused → {why : Refusal} → why ≡ firstRefusal (s .divisor)
-        → record { outcome = refused why; flags = f; steps = a .steps } ≡ divide n true (s .rep) (s .dividend) (s .divisor) f
-    refuses f = signed-refused n (s .dividend) (s .divisor) (s .rep) (s .some) (s .wide) (s .fits) f e
+        → {g : Flags} → g ≡ compareFlags n (a .compared) (s .pre .tmpb) (a .carry) f
+        → record { outcome = refused why; flags = g; steps = a .steps } ≡ divide n true (s .rep) (s .dividend) (s .divisor) f
+    refuses f h ew = signed-refused n (s .dividend) (s .divisor) (s .rep) (s .some) (s .wide) (s .fits) f e h ew right
 
     pub few-after : n ≤ 16 → {r : Results} → a .outcome ≡ Cord.accepted r → a .steps ≤ 175
     few-after hn h = omega (arith, few-steps n _ _ (6 + preSteps n (s .dividend) (s .divisor)) hn e h, pre-most n (s .dividend) (s .divisor))
@@ -47,8 +52,7 @@ module _ (n : ℕ) (s : AfterPre n) where
     pub finishes : (f : Flags) {r : Results} → a .outcome ≡ Cord.accepted r
         → (p : PostAnswer) → p ≡ postIdiv n r (s .dividend / 2 ^ n) (a .carry) (s .pre .negFlag) (a .steps + 3)
         → {g : Flags} → g ≡ compareFlags n (a .compared) (s .pre .tmpb) (a .carry) f
-        → finished p g f ≡ divide n true (s .rep) (s .dividend) (s .divisor) f
+        → finished p g ≡ divide n true (s .rep) (s .dividend) (s .divisor) f
     finishes f h p ep eg =
         signed-finished n (s .dividend) (s .divisor) (s .rep) (s .some) (s .wide) (s .fits) f e h
-        (pre-flag n (s .dividend) (s .divisor) (s .rep) (s .some) (s .wide) (s .fits) (s .handed)) p ep
-        (pre-divisor n (s .dividend) (s .divisor) (s .rep) (s .some) (s .wide) (s .fits) (s .handed)) eg
+        (pre-flag n (s .dividend) (s .divisor) (s .rep) (s .some) (s .wide) (s .fits) (s .handed)) p ep right eg

@@ -44,6 +44,13 @@ pub record AcceptedBy (n b d before : ℕ) (a : CordAnswer) (r : Results) : Type
   pub compared : a .compared ≡ lastCompare n b n d
   pub steps : a .steps ≡ before + cordSteps n b d
 
+-- of one that it refuses
+pub record RefusedBy (n b d before : ℕ) (a : CordAnswer) : Type 0 where
+  pub first : b ≤ d / 2 ^ n
+  pub carry : a .carry ≡ false
+  pub compared : a .compared ≡ d / 2 ^ n
+  pub steps : a .steps ≡ before + 4
+
 module _ (n b d before : ℕ) {a : CordAnswer} where
   pub when-accepted : a ≡ cord n b d before → {r : Results} → a .outcome ≡ Cord.accepted r → AcceptedBy n b d before a r
   unfolding cord
@@ -66,12 +73,18 @@ module _ (n b d before : ℕ) {a : CordAnswer} where
             steps = ap (λ (w : CordAnswer). w .steps) e;
           }
 
-  pub when-refused : a ≡ cord n b d before → a .outcome ≡ Cord.refused → (b ≤ d / 2 ^ n) × (a .steps ≡ before + 4)
+  pub when-refused : a ≡ cord n b d before → a .outcome ≡ Cord.refused → RefusedBy n b d before a
   unfolding cord
   when-refused e h = by (leb b (d / 2 ^ n)) refl e
     where
-      by : (x : Bool) → leb b (d / 2 ^ n) ≡ x → a ≡ cond x (cordRefused n d before) (cordAccepted n b d before) → (b ≤ d / 2 ^ n) × (a .steps ≡ before + 4)
-      by true x e = (leb-true b (d / 2 ^ n) x, ap (λ (w : CordAnswer). w .steps) e)
+      by : (x : Bool) → leb b (d / 2 ^ n) ≡ x → a ≡ cond x (cordRefused n d before) (cordAccepted n b d before) → RefusedBy n b d before a
+      by true x e =
+          record {
+            first = leb-true b (d / 2 ^ n) x;
+            carry = ap (λ (w : CordAnswer). w .carry) e;
+            compared = ap (λ (w : CordAnswer). w .compared) e;
+            steps = ap (λ (w : CordAnswer). w .steps) e;
+          }
       by false x e =
           let differ : Cord.accepted (record { quotient = d / b; remainder = d % b }) ≡ Cord.refused = sym (ap (λ (w : CordAnswer). w .outcome) e) ∙ h in
           let z : _≡_ {A = ℕ} 0 1 = cc in
@@ -123,6 +136,14 @@ module _ (n : ℕ) (s : Bool) (d b : ℕ) where
         by false true e = absurd (true≢false e)
         by false false e = refl
 
+  -- the flags, from the sides and the C of the compare that was made: the first, or the last
+  module _ (f : Flags) {left right : ℕ} {carry : Bool} (er : right ≡ divisorOf n s b) (ec : carry ≡ false) where
+    pub first-flags : atFirst n s d b ≡ true → left ≡ dividendOf n s d / 2 ^ n → compareFlags n left right carry f ≡ refusedFlags n s d b f
+    first-flags e el = rw e (λ i. compareFlags n (el i) (er i) (ec i) f)
+
+    pub later-flags : atFirst n s d b ≡ false → left ≡ lastCompare n (divisorOf n s b) n (dividendOf n s d) → compareFlags n left right carry f ≡ refusedFlags n s d b f
+    later-flags e el = rw e (λ i. compareFlags n (el i) (er i) (ec i) f)
+
   -- the answer, from its parts
   pub refused-is : (rep : Bool) (f : Flags) → accepts n s d b ≡ false → {why : Refusal} {g : Flags} {t : ℕ}
       → why ≡ refusalOf n s d b → g ≡ refusedFlags n s d b f → t ≡ refusedSteps n s d b
@@ -137,12 +158,13 @@ unsigned-known n d zero = inl (eq-eqb 0 0 refl, refl)
 unsigned-known n d (suc b) = inr (ne-eqb (suc b) 0 (λ e. omega arith), omega arith, refl)
 
 module _ (n d b : ℕ) (rep : Bool) (f : Flags) {a : CordAnswer} (e : a ≡ cord n b d 5) where
-  pub unsigned-refused : a .outcome ≡ Cord.refused → {why : Refusal} → why ≡ firstRefusal b
-      → record { outcome = refused why; flags = f; steps = a .steps } ≡ divide n false rep d b f
-  unsigned-refused h ew =
+  pub unsigned-refused : a .outcome ≡ Cord.refused → {why : Refusal} → why ≡ firstRefusal b → {g : Flags} → g ≡ compareFlags n (a .compared) b (a .carry) f
+      → record { outcome = refused why; flags = g; steps = a .steps } ≡ divide n false rep d b f
+  unsigned-refused h ew eg =
       let w = when-refused n b d 5 e h in
-      let first = first-refusal n false d b (unsigned-known n d b) (le-leb b (d / 2 ^ n) (w .0)) in
-      refused-is n false d b rep f (le-ltb (d / 2 ^ n) b (w .0)) (ew ∙ first) refl (w .1)
+      let first = le-leb b (d / 2 ^ n) (w .first) in
+      let flags = first-flags n false d b f refl (w .carry) first (w .compared) in
+      refused-is n false d b rep f (le-ltb (d / 2 ^ n) b (w .first)) (ew ∙ first-refusal n false d b (unsigned-known n d b) first) (eg ∙ flags) (w .steps)
 
   pub unsigned-accepted : b < 2 ^ n → {r : Results} → a .outcome ≡ Cord.accepted r → {g : Flags} → g ≡ compareFlags n (a .compared) b (a .carry) f
       → record { outcome = accepted r; flags = g; steps = a .steps + 2 } ≡ divide n false rep d b f
@@ -268,11 +290,13 @@ module _ (n d b : ℕ) (rep : Bool) (hn : 0 < n) (hd : d < 2 ^ (n + n)) (hb : b 
 
   module _ (f : Flags) {a : CordAnswer} (e : a ≡ cord n (divisorOf n true b) (dividendOf n true d) (6 + preSteps n d b)) where
     pub signed-refused : a .outcome ≡ Cord.refused → {why : Refusal} → why ≡ firstRefusal b
-        → record { outcome = refused why; flags = f; steps = a .steps } ≡ divide n true rep d b f
-    signed-refused h ew =
+        → {k : ℕ} {g : Flags} → k ≡ divisorOf n true b → g ≡ compareFlags n (a .compared) k (a .carry) f
+        → record { outcome = refused why; flags = g; steps = a .steps } ≡ divide n true rep d b f
+    signed-refused h ew ek eg =
         let w = when-refused n (divisorOf n true b) (dividendOf n true d) (6 + preSteps n d b) e h in
-        let first = le-leb (divisorOf n true b) (dividendOf n true d / 2 ^ n) (w .0) in
-        refused-is n true d b rep f (refused-first (w .0)) (ew ∙ first-refusal n true d b signed-known first) refl (w .1 ∙ rw first (omega arith))
+        let first = le-leb (divisorOf n true b) (dividendOf n true d / 2 ^ n) (w .first) in
+        let flags = first-flags n true d b f ek (w .carry) first (w .compared) in
+        refused-is n true d b rep f (refused-first (w .first)) (ew ∙ first-refusal n true d b signed-known first) (eg ∙ flags) (w .steps ∙ rw first (omega arith))
 
     module _ {r : Results} (h : a .outcome ≡ Cord.accepted r) where
       w : AcceptedBy n (divisorOf n true b) (dividendOf n true d) (6 + preSteps n d b) a r
@@ -283,18 +307,21 @@ module _ (n d b : ℕ) (rep : Bool) (hn : 0 < n) (hd : d < 2 ^ (n + n)) (hb : b 
 
       -- refused for sign range
       range-refused : (negate : Bool) {u : ℕ} → Idiv.refused u ≡ postIdiv n r (d / 2 ^ n) (a .carry) negate (a .steps + 3)
-          → record { outcome = refused SignRange; flags = f; steps = u } ≡ divide n true rep d b f
+          → {k : ℕ} {g : Flags} → k ≡ divisorOf n true b → g ≡ compareFlags n (a .compared) k (a .carry) f
+          → record { outcome = refused SignRange; flags = g; steps = u } ≡ divide n true rep d b f
       unfolding postIdiv
       range-refused negate {u} = by (a .carry) ruled
         where
           by : (c : Bool) → accepts n true d b ≡ c
               → Idiv.refused u ≡ cond c (Idiv.accepted (withSign n negate (r .quotient)) (withSign n (topSet n (d / 2 ^ n)) (r .remainder)) (a .steps + 3 + 10)) (Idiv.refused (a .steps + 3 + 2))
-              → record { outcome = refused SignRange; flags = f; steps = u } ≡ divide n true rep d b f
-          by true x p = let z : _≡_ {A = ℕ} 0 1 = cc in absurd (omega arith)
-          by false x p =
+              → {k : ℕ} {g : Flags} → k ≡ divisorOf n true b → g ≡ compareFlags n (a .compared) k c f
+              → record { outcome = refused SignRange; flags = g; steps = u } ≡ divide n true rep d b f
+          by true x p ek eg = let z : _≡_ {A = ℕ} 0 1 = cc in absurd (omega arith)
+          by false x p ek eg =
               let later = lt-leb (divisorOf n true b) (dividendOf n true d / 2 ^ n) (w .passed) in
               let steps : u ≡ a .steps + 3 + 2 = cc in
-              refused-is n true d b rep f x (later-refusal n true d b signed-known later) refl (steps ∙ rw later (omega (arith, w .steps)))
+              let flags = later-flags n true d b f ek refl later (w .compared) in
+              refused-is n true d b rep f x (later-refusal n true d b signed-known later) (eg ∙ flags) (steps ∙ rw later (omega (arith, w .steps)))
 
       -- accepted
       signed-accepted : {negate : Bool} → negate ≡ xor rep (xor (topSet (n + n) d) (topSet n b)) → {q′ r′ u : ℕ}
@@ -340,9 +367,9 @@ module _ (n d b : ℕ) (rep : Bool) (hn : 0 < n) (hd : d < 2 ^ (n + n)) (hb : b 
       pub signed-finished : {negate : Bool} → negate ≡ xor rep (xor (topSet (n + n) d) (topSet n b)) → (p : Idiv.PostAnswer)
           → p ≡ postIdiv n r (d / 2 ^ n) (a .carry) negate (a .steps + 3)
           → {k : ℕ} {g : Flags} → k ≡ divisorOf n true b → g ≡ compareFlags n (a .compared) k (a .carry) f
-          → finished p g f ≡ divide n true rep d b f
+          → finished p g ≡ divide n true rep d b f
       signed-finished en (Idiv.accepted q′ r′ u) ep ek eg = signed-accepted en ep ek eg refl
-      signed-finished {negate} en (Idiv.refused u) ep ek eg = range-refused negate ep
+      signed-finished {negate} en (Idiv.refused u) ep ek eg = range-refused negate ep ek eg
 
 -- ---- signed or not; REP changes nothing of an unsigned divide
 

@@ -10,4 +10,5 @@ pub mod Logged
 pub mod Manual
 pub mod Answers
 pub mod Refusals
+pub mod RefusedFlags
 pub mod Demand3

@@ -93,9 +93,13 @@ abbrev pub acceptedFlags : ℕ → Bool → ℕ → ℕ → Flags → Flags
 acceptedFlags n false d b f = cordFlags n b d f
 acceptedFlags n true d b f = setCO false false (cordFlags n (divisorOf n true b) (dividendOf n true d) f)
 
--- after a refusal, those handed in, whatever was divided
+-- the left side of the compare that a refusal leaves the flags of: the first, where that refuses, or for sign range the last one made
+abbrev pub refusedCompare : ℕ → Bool → ℕ → ℕ → ℕ
+refusedCompare n s d b = cond (atFirst n s d b) (dividendOf n s d / 2 ^ n) (lastCompare n (divisorOf n s b) n (dividendOf n s d))
+
+-- A, O, S, Z and P of that compare, and C clear
 abbrev pub refusedFlags : ℕ → Bool → ℕ → ℕ → Flags → Flags
-refusedFlags n s d b f = f
+refusedFlags n s d b f = compareFlags n (refusedCompare n s d b) (divisorOf n s b) false f
 
 -- REP negates a signed quotient
 abbrev pub quotientReturned : Bool → Bool → ℤ → ℤ

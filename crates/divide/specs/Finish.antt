@@ -13,7 +13,7 @@ use Rattle.divide.specs.declared.div.Refusal.the-variants.{ZeroDivisor, 
 abbrev pub firstRefusal : ℕ → Refusal
 firstRefusal b = cond (eqb b 0) ZeroDivisor TooWide
 
--- g are the flags that the last compare left, f those handed in
-abbrev pub finished : Idiv.PostAnswer → Flags → Flags → Divided
-finished (Idiv.accepted q r t) g f = record { outcome = accepted (record { quotient = q; remainder = r }); flags = setCO false false g; steps = t }
-finished (Idiv.refused t) g f = record { outcome = refused SignRange; flags = f; steps = t }
+-- f are the flags that CORD leaves: an accepted divide clears C and O, and a refused one has them as they are
+abbrev pub finished : Idiv.PostAnswer → Flags → Divided
+finished (Idiv.accepted q r t) f = record { outcome = accepted (record { quotient = q; remainder = r }); flags = setCO false false f; steps = t }
+finished (Idiv.refused t) f = record { outcome = refused SignRange; flags = f; steps = t }

@@ -1,4 +1,4 @@
-// The divides. What a refusal leaves of the flags is what was handed in.
+// The divides. CORD tells which compare it made last and what C is then, so the flags are one compare's, accepted or refused.
 ghost use mathlib.Core.Path.{_≡_};
 ghost use Rattle.flags.specs.Parity.{ParityTable};
 ghost use Rattle.divide.specs.Flags.{compareFlags};
@@ -68,24 +68,25 @@ fn unsigned_div8(dividend: u16, divisor: u8, flags: Flags, table: &[u8; 256]) ->
     let upper = (dividend / 0x100) as u8;
     let lower = (dividend % 0x100) as u8;
     let made = cord::cord8(upper, divisor, lower, 5);
+    let compare = compare_flags8(flags, made.compared, divisor, made.carry, table);
     let outcome = made.outcome;
     match outcome {
         CordOutcome8::Accepted(results) => Divided8 {
             outcome: DivideOutcome8::Accepted(results),
-            flags: compare_flags8(flags, made.compared, divisor, made.carry, table),
+            flags: compare,
             steps: made.steps + 2,
         },
         CordOutcome8::Refused => Divided8 {
             outcome: DivideOutcome8::Refused(first_refusal(divisor as u16)),
-            flags,
+            flags: compare,
             steps: made.steps,
         },
     }
 }
 
-// What POSTIDIV's answer makes of the divide. C and O are clear where it is accepted.
-fn finish8(post: PostIdiv8, compare: Flags, flags: Flags) -> Divided8
-    ensures { λ r. ⌜ divided8 r ≡ finished (post8Answer post) compare flags ⌝ }
+// What POSTIDIV's answer makes of the divide. C and O are cleared where it is accepted, and only there.
+fn finish8(post: PostIdiv8, compare: Flags) -> Divided8
+    ensures { λ r. ⌜ divided8 r ≡ finished (post8Answer post) compare ⌝ }
 {
     match post {
         PostIdiv8::Accepted {
@@ -102,7 +103,7 @@ fn finish8(post: PostIdiv8, compare: Flags, flags: Flags) -> Divided8
         },
         PostIdiv8::Refused { steps } => Divided8 {
             outcome: DivideOutcome8::Refused(Refusal::SignRange),
-            flags,
+            flags: compare,
             steps,
         },
     }
@@ -128,16 +129,16 @@ fn signed_div8(
     };
     let pre = idiv::pre_idiv8(from, divisor);
     let made = cord::cord8(pre.tmpa, pre.tmpb, pre.tmpc, pre.steps + 2);
+    let compare = compare_flags8(flags, made.compared, pre.tmpb, made.carry, table);
     let outcome = made.outcome;
     match outcome {
         CordOutcome8::Accepted(results) => {
             let post = idiv::post_idiv8(results, upper, made.carry, pre.neg_flag, made.steps + 3);
-            let compare = compare_flags8(flags, made.compared, pre.tmpb, made.carry, table);
-            finish8(post, compare, flags)
+            finish8(post, compare)
         }
         CordOutcome8::Refused => Divided8 {
             outcome: DivideOutcome8::Refused(first_refusal(divisor as u16)),
-            flags,
+            flags: compare,
             steps: made.steps,
         },
     }
@@ -190,24 +191,25 @@ fn unsigned_div16(dividend: u32, divisor: u16, flags: Flags, table: &[u8; 256]) 
     let upper = (dividend / 0x1_0000) as u16;
     let lower = (dividend % 0x1_0000) as u16;
     let made = cord::cord16(upper, divisor, lower, 5);
+    let compare = compare_flags16(flags, made.compared, divisor, made.carry, table);
     let outcome = made.outcome;
     match outcome {
         CordOutcome16::Accepted(results) => Divided16 {
             outcome: DivideOutcome16::Accepted(results),
-            flags: compare_flags16(flags, made.compared, divisor, made.carry, table),
+            flags: compare,
             steps: made.steps + 2,
         },
         CordOutcome16::Refused => Divided16 {
             outcome: DivideOutcome16::Refused(first_refusal(divisor)),
-            flags,
+            flags: compare,
             steps: made.steps,
         },
     }
 }
 
-// What POSTIDIV's answer makes of the divide. C and O are clear where it is accepted.
-fn finish16(post: PostIdiv16, compare: Flags, flags: Flags) -> Divided16
-    ensures { λ r. ⌜ divided16 r ≡ finished (post16Answer post) compare flags ⌝ }
+// What POSTIDIV's answer makes of the divide. C and O are cleared where it is accepted, and only there.
+fn finish16(post: PostIdiv16, compare: Flags) -> Divided16
+    ensures { λ r. ⌜ divided16 r ≡ finished (post16Answer post) compare ⌝ }
 {
     match post {
         PostIdiv16::Accepted {
@@ -224,7 +226,7 @@ fn finish16(post: PostIdiv16, compare: Flags, flags: Flags) -> Divided16
         },
         PostIdiv16::Refused { steps } => Divided16 {
             outcome: DivideOutcome16::Refused(Refusal::SignRange),
-            flags,
+            flags: compare,
             steps,
         },
     }
@@ -250,16 +252,16 @@ fn signed_div16(
     };
     let pre = idiv::pre_idiv16(from, divisor);
     let made = cord::cord16(pre.tmpa, pre.tmpb, pre.tmpc, pre.steps + 2);
+    let compare = compare_flags16(flags, made.compared, pre.tmpb, made.carry, table);
     let outcome = made.outcome;
     match outcome {
         CordOutcome16::Accepted(results) => {
             let post = idiv::post_idiv16(results, upper, made.carry, pre.neg_flag, made.steps + 3);
-            let compare = compare_flags16(flags, made.compared, pre.tmpb, made.carry, table);
-            finish16(post, compare, flags)
+            finish16(post, compare)
         }
         CordOutcome16::Refused => Divided16 {
             outcome: DivideOutcome16::Refused(first_refusal(divisor)),
-            flags,
+            flags: compare,
             steps: made.steps,
         },
     }

@@ -13,6 +13,7 @@ use Rattle.alu.specs.Step.{left, right, step, steps}
 use Rattle.alu.specs.Shift.{leftward, rightward, downward}
 use Rattle.multiply.specs.Multiply.{multiply}
 use Rattle.divide.specs.Cord.{road, tally, lastCompare}
+use Rattle.divide.specs.Flags.{compareFlags}
 use Rattle.divide.specs.Divide.{refusalOf, divide}
 use Rattle.bcd.specs.Ascii.{ascii, aaaOf}
 use Rattle.bcd.specs.Decimal.{decimal, daaOf}
@@ -23,5 +24,5 @@ use Rattle.answer.specs.Asked.{asked}
 use Rattle.marked.specs.Marked.{Marked, marked}
 
 pub all-marked : map (λ (m : Marked). m .tells (asked (m .request))) marked ≡ map (λ (m : Marked). m .says) marked
-unfolding wordOf flagsOf isFlags signed fitsSigned wrapped adc sbb left right step steps leftward rightward downward xor road tally lastCompare refusalOf divide multiply ones onesIn ascii aaaOf decimal daaOf evenOnes szp ops listed operationOf judged charted asked
+unfolding wordOf flagsOf isFlags signed fitsSigned wrapped adc sbb left right step steps leftward rightward downward xor road tally lastCompare compareFlags refusalOf divide multiply ones onesIn ascii aaaOf decimal daaOf evenOnes szp ops listed operationOf judged charted asked
 all-marked = refl

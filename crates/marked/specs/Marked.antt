@@ -24,9 +24,9 @@ product a = a .status ∷ a .r ∷ a .steps ∷ []
 abbrev divided : Answer → List ℕ
 divided a = a .status ∷ a .r ∷ a .s ∷ a .steps ∷ []
 
--- a refusal and its steps
+-- a refusal, its flags word and its steps
 abbrev refused : Answer → List ℕ
-refused a = a .status ∷ a .steps ∷ []
+refused a = a .status ∷ a .flags ∷ a .steps ∷ []
 
 -- one flag, by its bit: C is 0 and Z is 6
 abbrev flag : ℕ → Answer → List ℕ
@@ -56,9 +56,9 @@ marked =
     -- M7 and M8: 00FF / FF is 1 r 0 in 80 steps, 0100 / C8 is 1 r 38 in 79
     ∷ record { request = raw 0x11 0x00 0x0000 0x00FF 0xFF; tells = divided; says = 0 ∷ 0x01 ∷ 0x00 ∷ 80 ∷ [] }
     ∷ record { request = raw 0x11 0x00 0x0000 0x0100 0xC8; tells = divided; says = 0 ∷ 0x01 ∷ 0x38 ∷ 79 ∷ [] }
-    -- M9: signed FF81 / 01 is 81 r 0 in 111 steps; FF80 / 01 is refused for sign range after 95
+    -- M9: signed FF81 / 01 is 81 r 0 in 111 steps; FF80 / 01 is refused for sign range after 95, A P
     ∷ record { request = raw 0x11 0x02 0x0000 0xFF81 0x01; tells = divided; says = 0 ∷ 0x81 ∷ 0x00 ∷ 111 ∷ [] }
-    ∷ record { request = raw 0x11 0x02 0x0000 0xFF80 0x01; tells = refused; says = 9 ∷ 95 ∷ [] }
+    ∷ record { request = raw 0x11 0x02 0x0000 0xFF80 0x01; tells = refused; says = 9 ∷ 0x0014 ∷ 95 ∷ [] }
     -- M10: signed FFF9 / 02 is FD r FF, and FFF5 / 03 is FD r FE, both in 106 steps
     ∷ record { request = raw 0x11 0x02 0x0000 0xFFF9 0x02; tells = divided; says = 0 ∷ 0xFD ∷ 0xFF ∷ 106 ∷ [] }
     ∷ record { request = raw 0x11 0x02 0x0000 0xFFF5 0x03; tells = divided; says = 0 ∷ 0xFD ∷ 0xFE ∷ 106 ∷ [] }

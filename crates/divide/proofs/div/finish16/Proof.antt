@@ -14,12 +14,12 @@ returns c =
     let told = c .before .before .post .given in
     let a = c .before .before .before .before .args in
     ap (λ (h : Flags). record { outcome = accepted (record { quotient = told .0 .0; remainder = told .0 .1 .0 }); flags = h; steps = told .0 .1 .1 .0 }) (c .with-co .ensures)
-    ∙ ap (λ (p : PostIdiv16). finished (post16Answer p) (a .compare) (a .flags)) (sym (told .1))
+    ∙ ap (λ (p : PostIdiv16). finished (post16Answer p) (a .compare)) (sym (told .1))
 
 returns-2 : tie.Need-returns-2
 returns-2 c =
     let a = c .before .before .before .args in
-    ap (λ (p : PostIdiv16). finished (post16Answer p) (a .compare) (a .flags)) (sym (c .before .post2 .given .1))
+    ap (λ (p : PostIdiv16). finished (post16Answer p) (a .compare)) (sym (c .before .post2 .given .1))
 
 pub finish16-spec : {M : Type 1} → statement M
 finish16-spec = tie.close (tie.spec (λ c. search needs) (λ c κs. search needs) (λ c. search needs) returns returns-2)

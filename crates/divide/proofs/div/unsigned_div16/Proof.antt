@@ -15,24 +15,28 @@ use Rattle.divide.proofs.div.unsigned_div16.Tie as tie
 cord-at : (c : tie.After-cord16) → cordAnswer16 (c .cord16 .result) ≡ cord 16 (c .before .args .divisor) (c .before .args .dividend) 5
 cord-at c = c .cord16 .ensures ∙ ap (λ (x : ℕ). cord 16 (c .before .args .divisor) x 5) (div-add-mod' (c .before .args .dividend) 65536)
 
-accepted-at : (c : tie.After-outcome) → cordOutcome16 (c .before .before .cord16 .result .outcome) ≡ Cord.accepted (results16 (c .outcome .given .0 .0))
+accepted-at : (c : tie.After-outcome) → cordOutcome16 (c .before .before .before .cord16 .result .outcome) ≡ Cord.accepted (results16 (c .outcome .given .0 .0))
 accepted-at c = ap cordOutcome16 (c .outcome .given .1)
 
 few-cord : tie.Need-add-t14
 few-cord c =
-    let at = c .before .before .before in
-    omega (arith, few-steps 16 _ _ 5 (omega arith) (cord-at (at .before .before)) (accepted-at at))
+    let at = c .before .before in
+    omega (arith, few-steps 16 _ _ 5 (omega arith) (cord-at (at .before .before .before)) (accepted-at at))
 
 returns : tie.Need-returns
 returns c =
-    let at = c .before .before .before in
-    unsigned-accepted 16 _ _ _ _ (cord-at (at .before .before)) (omega arith) (accepted-at at) (c .before .compare-flags16 .ensures)
+    let at = c .before .before in
+    let compared = at .before .before in
+    unsigned-accepted 16 _ _ _ _ (cord-at (compared .before)) (omega arith) (accepted-at at) (compared .compare-flags16 .ensures)
 
 returns-2 : tie.Need-returns-2
-returns-2 c = let at = c .before in unsigned-refused 16 _ _ _ _ (cord-at (at .before .before)) (ap cordOutcome16 (at .enum-told .given .1)) (c .first-refusal .ensures)
+returns-2 c =
+    let told = c .before in
+    let compared = told .before .before in
+    unsigned-refused 16 _ _ _ _ (cord-at (compared .before)) (ap cordOutcome16 (told .enum-told .given .1)) (c .first-refusal .ensures) (compared .compare-flags16 .ensures)
 
 pub unsigned-div16-spec : {M : Type 1} → statement M
 unsigned-div16-spec =
     tie.close
-    (tie.spec (λ c. search needs) (λ c. search needs) (λ c κs. search needs) (λ c. search needs) (λ c κs. search needs) few-cord (λ c. search needs)
+    (tie.spec (λ c. search needs) (λ c. search needs) (λ c κs. search needs) (λ c κs. search needs) (λ c. search needs) few-cord (λ c. search needs)
     (λ c. search needs) returns returns-2)

@@ -1,0 +1,96 @@
+-- The flags that a refused divide leaves, over the width n: by its reason, those of the first compare or of the last; C is clear; the flags
+-- handed in are not seen. Assumes nothing.
+use mathlib.Core.Path.{_≡_, refl, sym, ap, ap₂, _∙_}
+use mathlib.Core.Bool.{Bool, true, false, cond, _||_, or-true, false≢true}
+use Prim.Native.Nat.{ℕ, zero, suc, _+_, _*_, _/_, _^_, _≤_, _<_}
+use native.Mathlib.Omega.{arith}
+use lib.Dec.{leb}
+use borrow.Author.Tests.{leb-false}
+use Rattle.flags.specs.Szp.{szp}
+use Rattle.flags.proofs.Powers.{top-twice}
+use Rattle.flags.proofs.SignLaws.{plain-lt, magnitude-plain}
+use Rattle.flags.specs.declared.word.Flags.{Flags}
+use Rattle.divide.specs.Cord.{shifted, Road, roadBy, lastBy, lastCompare}
+use Rattle.divide.specs.Flags.{compareFlags}
+use Rattle.divide.specs.Divide.{Divided, refused, accepts, applies, dividendOf, divisorOf, atFirst, refusedFlags, divide}
+use Rattle.divide.specs.declared.div.Refusal.{Refusal}
+use Rattle.divide.specs.declared.div.Refusal.the-variants.{ZeroDivisor, TooWide, SignRange}
+use Rattle.divide.proofs.RoadLaws.{never-out}
+use Rattle.divide.proofs.Refusals.{first-two, one-alone, refused-whole, refused-for}
+
+-- ---- what the flags handed in are worth: nothing. A divide sets all six
+
+compare-alone : (n left right : ℕ) (carry : Bool) (f g : Flags) → compareFlags n left right carry f ≡ compareFlags n left right carry g
+unfolding compareFlags szp
+compare-alone n left right carry f g = refl
+
+-- accepted or refused
+pub flags-not-seen : (n : ℕ) (s rep : Bool) (d b : ℕ) (f g : Flags) → divide n s rep d b f ≡ divide n s rep d b g
+unfolding divide compareFlags szp
+flags-not-seen n true rep d b f g = refl
+flags-not-seen n false rep d b f g = refl
+
+-- ---- by the reason
+
+module _ (n : ℕ) (s : Bool) (d b : ℕ) (hn : 0 < n) (hd : d < 2 ^ (n + n)) (hb : b < 2 ^ n) (rep : Bool) (f : Flags) where
+  flags-for : (why : Refusal) → divide n s rep d b f .outcome ≡ refused why → divide n s rep d b f .flags ≡ refusedFlags n s d b f
+  flags-for why h = ap (λ (a : Divided). a .flags) (refused-whole n s d b hn f rep why (refused-for n s d b hn f rep why .0 h))
+
+  -- C is clear
+  pub refused-c : (why : Refusal) → divide n s rep d b f .outcome ≡ refused why → divide n s rep d b f .flags .carry ≡ false
+  unfolding compareFlags szp
+  refused-c why h = ap (λ (g : Flags). g .carry) (flags-for why h)
+
+  abbrev First : Type 0
+  First = divide n s rep d b f .flags ≡ compareFlags n (dividendOf n s d / 2 ^ n) (divisorOf n s b) false f
+
+  first : (why : Refusal) → divide n s rep d b f .outcome ≡ refused why → atFirst n s d b ≡ true → First
+  first why h e = flags-for why h ∙ rw e refl
+
+  -- a divisor of 0 and a quotient too wide leave the flags of the first compare
+  pub zero-divisor-flags : divide n s rep d b f .outcome ≡ refused ZeroDivisor → First
+  zero-divisor-flags h = first ZeroDivisor h (first-two n s d b hn hd hb ∙ rw (refused-for n s d b hn f rep ZeroDivisor .0 h) refl)
+
+  pub too-wide-flags : divide n s rep d b f .outcome ≡ refused TooWide → First
+  too-wide-flags h = first TooWide h (first-two n s d b hn hd hb ∙ rw (refused-for n s d b hn f rep TooWide .0 h) (or-true (applies ZeroDivisor n s d b)))
+
+-- ---- sign range: the last compare is that of the last round, since with a divisor of at most half the range no bit is shifted out
+
+last-round : (n b p k : ℕ) → 0 < k → 0 < b → b * 2 ≤ 2 ^ n → lastCompare n b k p ≡ shifted b p
+unfolding lastCompare
+last-round n b p zero some pos half = absurd (omega arith)
+last-round n b p (suc k) some pos half =
+    ap (λ (r : Road). lastBy r (lastCompare n b k (p / 2)) (shifted b p)) (never-out n b p pos half) ∙ either (leb b (shifted b p))
+  where
+    either : (x : Bool) → lastBy (roadBy false x) (lastCompare n b k (p / 2)) (shifted b p) ≡ shifted b p
+    either true = refl
+    either false = refl
+
+abbrev isRange : Refusal → Bool
+isRange SignRange = true
+isRange ZeroDivisor = false
+isRange TooWide = false
+
+module _ (n d b : ℕ) (hn : 0 < n) (hd : d < 2 ^ (n + n)) (hb : b < 2 ^ n) (rep : Bool) (f : Flags)
+    (h : divide n true rep d b f .outcome ≡ refused SignRange) where
+  range : applies SignRange n true d b ≡ true
+  range = refused-for n true d b hn f rep SignRange .0 h
+
+  not-also : (why : Refusal) → isRange why ≡ false → applies why n true d b ≡ false
+  not-also why e = by (applies why n true d b) refl
+    where
+      by : (x : Bool) → applies why n true d b ≡ x → x ≡ false
+      by true x = absurd (false≢true (sym e ∙ ap isRange (one-alone n true d b why SignRange x range)))
+      by false x = refl
+
+  later : atFirst n true d b ≡ false
+  later = first-two n true d b hn hd hb ∙ ap₂ (λ (x y : Bool). x || y) (not-also ZeroDivisor refl) (not-also TooWide refl)
+
+  pub sign-range-flags : divide n true rep d b f .flags ≡ compareFlags n (lastCompare n (divisorOf n true b) n (dividendOf n true d)) (divisorOf n true b) false f
+  sign-range-flags = flags-for n true d b hn hd hb rep f SignRange h ∙ rw later refl
+
+  pub sign-range-compare : lastCompare n (divisorOf n true b) n (dividendOf n true d) ≡ shifted (divisorOf n true b) (dividendOf n true d)
+  sign-range-compare =
+      let some : 0 < divisorOf n true b = omega (arith, leb-false (divisorOf n true b) (dividendOf n true d / 2 ^ n) later) in
+      let half : divisorOf n true b * 2 ≤ 2 ^ n = omega (arith, magnitude-plain n b hb, plain-lt n b hn hb, top-twice n hn) in
+      last-round n (divisorOf n true b) (dividendOf n true d) n hn some half
