@@ -17,7 +17,7 @@ use Rattle.flags.proofs.Masks.{mask-bit, digit-xor, digit-and, digit-top}
 use Rattle.flags.proofs.SignedLaws.{Diff, above, diff-as, diff-neg, diff-add, diff-signed, fits-diff, TopIs, top-is, same-test}
 use Rattle.flags.proofs.WordLaws.{bit-le, bit-isSet}
 use Rattle.alu.specs.Result.{ResultCoa}
-use Rattle.alu.specs.Sum.{adc, sbb, neg}
+use Rattle.alu.specs.Sum.{adc, sbb, sub, neg}
 
 -- ---- overflow
 
@@ -205,3 +205,24 @@ neg-result n x e = ap (λ (r : ResultCoa). r .result) e ∙ ap (λ (y : ℕ). y 
   where
     taken : 2 ^ n + 0 - (x + 0) ≡ 2 ^ n - x
     taken = omega arith
+
+-- 0 taken away leaves the number and sets no flag
+pub sub-nothing : (n a : ℕ) → 0 < n → a < 2 ^ n → sub n a 0 ≡ record { result = a; carry = false; overflow = false; auxCarry = false }
+unfolding sbb
+sub-nothing n a hn ha = λ i. record { result = whole i; carry = none a i; overflow = fits i; auxCarry = none (a % 16) i }
+  where
+    whole : (2 ^ n + a - (0 + 0)) % 2 ^ n ≡ a
+    whole = omega (arith, rest-large (2 ^ n + a - (0 + 0)) (2 ^ n) (omega arith) (omega arith))
+
+    none : (x : ℕ) → ltb x (0 + 0) ≡ false
+    none x = le-ltb x (0 + 0) (omega arith)
+
+    small : (s t : Bool) → TopIs s (top n) a → TopIs t (top n) 0 → leaves (a + bit t * 2 ^ n + 0) (bit s * 2 ^ n + 0 + bit false) (top n) ≡ false
+    small s true hs ht = absurd (omega (arith, pow-pos (n - 1)))
+    small true false hs ht = inside _ _ (top n) (omega (arith, top-twice n hn)) (omega (arith, top-twice n hn))
+    small false false hs ht = inside _ _ (top n) (omega arith) (omega arith)
+
+    fits : not (fitsSigned n (signed n a -ℤ signed n 0 -ℤ pos (bit false))) ≡ false
+    fits =
+        ap not (fits-diff n (diff-add (diff-add (diff-signed n a) (diff-neg (diff-signed n 0))) (diff-neg (above (bit false) (bit false) 0 (omega arith)))))
+        ∙ small (topSet n a) (topSet n 0) (top-is n a) (top-is n 0)

@@ -2,14 +2,21 @@
 -- handed in are not seen. Assumes nothing.
 use mathlib.Core.Path.{_≡_, refl, sym, ap, ap₂, _∙_}
 use mathlib.Core.Bool.{Bool, true, false, cond, _||_, or-true, false≢true}
-use Prim.Native.Nat.{ℕ, zero, suc, _+_, _*_, _/_, _^_, _≤_, _<_}
+use Prim.Native.Nat.{ℕ, zero, suc, _+_, _-_, _*_, _/_, _^_, _≤_, _<_}
+use native.Mathlib.Nat.{div-lt-iff-lt-mul}
 use native.Mathlib.Omega.{arith}
 use lib.Dec.{leb}
-use borrow.Author.Tests.{leb-false}
+use lib.Pow.{pow-add, pow-pos}
+use borrow.Author.Tests.{leb-false, lt-leb, eqb-true}
+use Rattle.flags.specs.Numbers.{top}
+use Rattle.flags.specs.Word.{setCOA}
 use Rattle.flags.specs.Szp.{szp}
 use Rattle.flags.proofs.Powers.{top-twice}
 use Rattle.flags.proofs.SignLaws.{plain-lt, magnitude-plain}
 use Rattle.flags.specs.declared.word.Flags.{Flags}
+use Rattle.alu.specs.Result.{ResultCoa}
+use Rattle.alu.specs.Sum.{sub}
+use Rattle.alu.proofs.SumLaws.{sub-nothing}
 use Rattle.divide.specs.Cord.{shifted, Road, roadBy, lastBy, lastCompare}
 use Rattle.divide.specs.Flags.{compareFlags}
 use Rattle.divide.specs.Divide.{Divided, refused, accepts, applies, dividendOf, divisorOf, atFirst, refusedFlags, divide}
@@ -53,6 +60,31 @@ module _ (n : ℕ) (s : Bool) (d b : ℕ) (hn : 0 < n) (hd : d < 2 ^ (n + n)) (h
 
   pub too-wide-flags : divide n s rep d b f .outcome ≡ refused TooWide → First
   too-wide-flags h = first TooWide h (first-two n s d b hn hd hb ∙ rw (refused-for n s d b hn f rep TooWide .0 h) (or-true (applies ZeroDivisor n s d b)))
+
+-- ---- a divisor of 0: the upper half less 0, so that A, C and O are clear, and S, Z and P are those of the upper half itself
+
+-- 0 has the magnitude 0, signed or not
+no-divisor : (n : ℕ) (s : Bool) (b : ℕ) → 0 < n → b ≡ 0 → divisorOf n s b ≡ 0
+no-divisor n true b hn e = magnitude-plain n b (omega (arith, pow-pos n)) ∙ rw (e, lt-leb (top n) 0 (pow-pos (n - 1))) refl
+no-divisor n false b hn e = e
+
+upper-fits : (n : ℕ) (s : Bool) (d : ℕ) → 0 < n → d < 2 ^ (n + n) → dividendOf n s d / 2 ^ n < 2 ^ n
+upper-fits n s d hn hd = div-lt-iff-lt-mul (pow-pos n) .1 (rw (← pow-add 2 n n) (within s))
+  where
+    within : (s : Bool) → dividendOf n s d < 2 ^ (n + n)
+    within true = omega (arith, magnitude-plain (n + n) d hd, plain-lt (n + n) d (omega arith) hd, top-twice (n + n) (omega arith), pow-pos (n + n - 1))
+    within false = hd
+
+module _ (n : ℕ) (s : Bool) (d b : ℕ) (hn : 0 < n) (hd : d < 2 ^ (n + n)) (hb : b < 2 ^ n) (rep : Bool) (f : Flags)
+    (h : divide n s rep d b f .outcome ≡ refused ZeroDivisor) where
+  pub by-zero-leaves : divide n s rep d b f .flags ≡ szp 16 (dividendOf n s d / 2 ^ n) (setCOA false false false f)
+  unfolding compareFlags
+  by-zero-leaves =
+      let none = no-divisor n s b hn (eqb-true b 0 (refused-for n s d b hn f rep ZeroDivisor .0 h)) in
+      let left = dividendOf n s d / 2 ^ n in
+      zero-divisor-flags n s d b hn hd hb rep f h
+      ∙ ap (λ (x : ℕ). szp 16 (sub n left x .result) (setCOA false (sub n left x .overflow) (sub n left x .auxCarry) f)) none
+      ∙ ap (λ (r : ResultCoa). szp 16 (r .result) (setCOA false (r .overflow) (r .auxCarry) f)) (sub-nothing n left hn (upper-fits n s d hn hd))
 
 -- ---- sign range: the last compare is that of the last round, since with a divisor of at most half the range no bit is shifted out
 
