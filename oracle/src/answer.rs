@@ -32,17 +32,6 @@ impl Answer {
         self.refused.map_or(0, Refused::status)
     }
 
-    /// The answer under the project's simplification: a refused divide gives
-    /// back the flags handed in. The Rust writes some before it refuses.
-    #[inline]
-    pub fn with_refused_flags_handed_in(self, request: &Request) -> Answer {
-        let flags = match self.refused {
-            Some(_) => request.flags(),
-            None => self.flags,
-        };
-        Answer { flags, ..self }
-    }
-
     /// The line, with its line feed.
     #[inline]
     pub fn to_line(&self) -> [u8; ANSWER_DIGITS + 1] {

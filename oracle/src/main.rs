@@ -40,9 +40,9 @@ fn obey(command: Command) -> Result<(), Stop> {
     let mut output = BufWriter::with_capacity(BUFFER, io::stdout().lock());
     match command {
         Command::Help => output.write_all(options::HELP.as_bytes()),
-        Command::Answer(refused) => {
+        Command::Answer => {
             let input = BufReader::with_capacity(BUFFER, io::stdin().lock());
-            return session::run(input, output, refused).map(|_| ());
+            return session::run(input, output).map(|_| ());
         }
         Command::Record => {
             let input = BufReader::with_capacity(BUFFER, io::stdin().lock());

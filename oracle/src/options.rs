@@ -1,13 +1,12 @@
 //! Reads the command line, so that `main` only has to act on it.
 
 use oracle::request::Operation;
-use oracle::session::RefusedFlags;
 
 pub const HELP: &str = "\
 Answers request lines with MartyPC's own Rust.
 
 use:
-  oracle answer [--refused-flags rust|handed-in] < requests > answers
+  oracle answer < requests > answers
   oracle make --seed N --count N [--op XX]... > requests
   oracle make --edges [--op XX]... > requests
   oracle make --borders > requests
@@ -18,9 +17,6 @@ use:
 answer
   Reads request lines of 20 hexadecimal digits and writes one answer line of
   18 digits for each. It stops at the first line that is not admitted.
-  --refused-flags rust       a refused divide answers with the flags the Rust
-                             leaves behind (this is so if nothing is said)
-  --refused-flags handed-in  a refused divide answers with the flags handed in
 
 make
   Writes request lines. All of them are admitted, but for --malformed.
@@ -35,8 +31,8 @@ make
 
 record
   Reads lines, admitted or not, and writes for each what a port has to answer:
-  18 digits, a space, and the line. A refused divide has the flags handed in; a
-  line that is not admitted has its status and zeros.
+  18 digits, a space, and the line. A line that is not admitted has its status
+  and zeros.
 
 exit: 0 done, 1 a line, a read or a write failed, 2 the command is not understood
 ";
@@ -44,7 +40,7 @@ exit: 0 done, 1 a line, a read or a write failed, 2 the command is not understoo
 #[derive(Debug, PartialEq, Eq)]
 pub enum Command {
     Help,
-    Answer(RefusedFlags),
+    Answer,
     Draw {
         seed: u64,
         count: u64,
@@ -63,34 +59,24 @@ pub fn read(mut arguments: impl Iterator<Item = String>) -> Result<Command, Stri
     let name = arguments.next().ok_or("no command is given")?;
     match name.as_str() {
         "--help" | "-h" | "help" => Ok(Command::Help),
-        "answer" => read_answer(arguments),
+        "answer" => read_bare(Command::Answer, &name, arguments),
         "make" => read_make(arguments),
-        "record" => match arguments.next() {
-            None => Ok(Command::Record),
-            Some(option) => Err(format!("unknown option `{option}` of record")),
-        },
+        "record" => read_bare(Command::Record, &name, arguments),
         _ => Err(format!("unknown command `{name}`")),
     }
 }
 
-fn read_answer(mut arguments: impl Iterator<Item = String>) -> Result<Command, String> {
-    let mut refused = RefusedFlags::default();
-    while let Some(option) = arguments.next() {
-        match option.as_str() {
-            "--help" => return Ok(Command::Help),
-            "--refused-flags" => {
-                refused = match value(&option, &mut arguments)?.as_str() {
-                    "rust" => RefusedFlags::Rust,
-                    "handed-in" => RefusedFlags::HandedIn,
-                    other => {
-                        return Err(format!("{option} takes rust or handed-in, not `{other}`"))
-                    }
-                }
-            }
-            _ => return Err(format!("unknown option `{option}` of answer")),
-        }
+/// A command that takes no option but `--help`.
+fn read_bare(
+    command: Command,
+    name: &str,
+    mut arguments: impl Iterator<Item = String>,
+) -> Result<Command, String> {
+    match arguments.next().as_deref() {
+        None => Ok(command),
+        Some("--help") => Ok(Command::Help),
+        Some(option) => Err(format!("unknown option `{option}` of {name}")),
     }
-    Ok(Command::Answer(refused))
 }
 
 fn read_make(mut arguments: impl Iterator<Item = String>) -> Result<Command, String> {

@@ -6,16 +6,6 @@ use crate::request::{Fault, Request, REQUEST_DIGITS};
 use std::fmt;
 use std::io::{self, BufRead, Read, Write};
 
-/// Which flags a refused divide answers with.
-#[derive(Clone, Copy, Debug, Default, PartialEq, Eq)]
-pub enum RefusedFlags {
-    /// Those the Rust leaves behind.
-    #[default]
-    Rust,
-    /// Those handed in: the project's simplification.
-    HandedIn,
-}
-
 /// Why a run stopped before the end of its input.
 #[derive(Debug)]
 pub enum Stop {
@@ -39,23 +29,15 @@ impl std::error::Error for Stop {}
 
 /// Answers every line and returns their number. The answers before a line that
 /// is not admitted are written all the same.
-pub fn run(
-    mut input: impl BufRead,
-    mut output: impl Write,
-    refused: RefusedFlags,
-) -> Result<u64, Stop> {
-    let result = answer_lines(&mut input, &mut output, refused);
+pub fn run(mut input: impl BufRead, mut output: impl Write) -> Result<u64, Stop> {
+    let result = answer_lines(&mut input, &mut output);
     match output.flush() {
         Err(error) if !matches!(result, Err(Stop::Write(_))) => Err(Stop::Write(error)),
         _ => result,
     }
 }
 
-fn answer_lines(
-    input: &mut impl BufRead,
-    output: &mut impl Write,
-    refused: RefusedFlags,
-) -> Result<u64, Stop> {
+fn answer_lines(input: &mut impl BufRead, output: &mut impl Write) -> Result<u64, Stop> {
     // Room for a whole line and its feed. A longer line shows by filling the
     // room without a feed, so no line can make the buffer grow.
     const ROOM: usize = REQUEST_DIGITS + 1;
@@ -74,17 +56,15 @@ fn answer_lines(
         lines += 1;
         let line = buffer.strip_suffix(b"\n").unwrap_or(&buffer);
         let request = Request::parse(line).map_err(|fault| Stop::Line(lines, fault))?;
-        let mut given = answer(&request);
-        if refused == RefusedFlags::HandedIn {
-            given = given.with_refused_flags_handed_in(&request);
-        }
-        output.write_all(&given.to_line()).map_err(Stop::Write)?;
+        output
+            .write_all(&answer(&request).to_line())
+            .map_err(Stop::Write)?;
     }
 }
 
-/// Records every line, admitted or not, for a replay: the answer that the
-/// project's scope asks for, a space, and the line. A line that is not admitted
-/// is answered with its status and zeros. Returns the number of lines.
+/// Records every line, admitted or not, for a replay: its answer, a space, and
+/// the line. A line that is not admitted is answered with its status and zeros.
+/// Returns the number of lines.
 pub fn record(mut input: impl BufRead, mut output: impl Write) -> Result<u64, Stop> {
     let mut buffer = Vec::new();
     let mut lines = 0;
@@ -104,10 +84,7 @@ pub fn record(mut input: impl BufRead, mut output: impl Write) -> Result<u64, St
 
 fn answer_digits(line: &[u8]) -> Vec<u8> {
     match Request::parse(line) {
-        Ok(request) => {
-            let given = answer(&request).with_refused_flags_handed_in(&request);
-            given.to_line()[..ANSWER_DIGITS].to_vec()
-        }
+        Ok(request) => answer(&request).to_line()[..ANSWER_DIGITS].to_vec(),
         Err(fault) => format!("{:02X}{:016X}", fault.status(), 0).into_bytes(),
     }
 }

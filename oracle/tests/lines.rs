@@ -2,45 +2,52 @@
 
 use oracle::draw::Draw;
 use oracle::request::Operation;
-use oracle::session::{record, run, RefusedFlags, Stop};
+use oracle::session::{record, run, Stop};
 use oracle::{answer, borders, edges, malformed, Fault, Request};
 use std::io::Write;
 use std::process::{Command, Output, Stdio};
 
 const SESSION: &str = "11000000000000070002\n110200000000FF800001\n";
 
-fn text(requests: &str, refused: RefusedFlags) -> (String, Result<u64, Stop>) {
+fn text(requests: &str) -> (String, Result<u64, Stop>) {
     let mut answers = Vec::new();
-    let result = run(requests.as_bytes(), &mut answers, refused);
+    let result = run(requests.as_bytes(), &mut answers);
     (String::from_utf8(answers).unwrap(), result)
 }
 
+/// A refused divide has the flags that the Rust wrote before it refused. Here
+/// the last compare is 00 - 01, so A and P are set; S is bit 15 and stays clear;
+/// the quotient's magnitude is 80, so C is clear.
 #[test]
 fn session_of_the_scope() {
-    let (answers, result) = text(SESSION, RefusedFlags::HandedIn);
-    assert_eq!(answers, "000001005100030001\n090000005F00000000\n");
+    let (answers, result) = text(SESSION);
+    assert_eq!(answers, "000001005100030001\n090014005F00000000\n");
     assert_eq!(result.unwrap(), 2);
 }
 
-/// The Rust writes flags before it refuses. The last compare is 00 - 01, so A
-/// and P are set; S is bit 15 and stays clear; the quotient's magnitude is 80,
-/// so C is clear.
+/// The borders hold each divide once with no flag and once with all of them.
 #[test]
-fn session_with_the_flags_of_the_rust() {
-    let (answers, _) = text(SESSION, RefusedFlags::Rust);
-    assert_eq!(answers, "000001005100030001\n090014005F00000000\n");
+fn flags_handed_in_do_not_show_in_a_refusal() {
+    let mut refused = 0;
+    for request in borders::requests() {
+        let given = answer(&request);
+        let (operation, x, y) = (request.operation(), request.x(), request.y());
+        let bare = Request::new(operation, 0, x, y).unwrap();
+        if given.refused.is_some() {
+            refused += 1;
+            assert_eq!(given, answer(&bare), "{request:?}");
+        }
+    }
+    assert_eq!(refused, 352);
 }
 
 #[test]
 fn last_feed_may_lack_and_both_cases_are_read() {
-    let (answers, result) = text(
-        "18000000000000fa0000\n18000000000000FA0000",
-        RefusedFlags::Rust,
-    );
+    let (answers, result) = text("18000000000000fa0000\n18000000000000FA0000");
     let (first, second) = answers.split_at(19);
     assert_eq!(first, second);
     assert_eq!(result.unwrap(), 2);
-    assert_eq!(text("", RefusedFlags::Rust).1.unwrap(), 0);
+    assert_eq!(text("").1.unwrap(), 0);
 }
 
 #[test]
@@ -88,14 +95,11 @@ fn largest_operands_are_admitted() {
 
 #[test]
 fn a_fault_names_its_line_and_keeps_the_answers_before_it() {
-    let (answers, result) = text("11000000000000070002\n\n", RefusedFlags::Rust);
+    let (answers, result) = text("11000000000000070002\n\n");
     assert_eq!(answers, "000001005100030001\n");
     assert!(matches!(result, Err(Stop::Line(2, Fault::Length))));
     let long = "0".repeat(1000);
-    assert!(matches!(
-        text(&long, RefusedFlags::Rust).1,
-        Err(Stop::Line(1, Fault::Length))
-    ));
+    assert!(matches!(text(&long).1, Err(Stop::Line(1, Fault::Length))));
 }
 
 /// Steps have the scope's bounds, and most divides drawn are accepted.
@@ -158,10 +162,33 @@ fn records_hold_the_answer_and_the_line() {
     let lines = format!("{SESSION}\n0D");
     assert_eq!(record(lines.as_bytes(), &mut records).unwrap(), 4);
     let expected = "000001005100030001 11000000000000070002\n\
-                    090000005F00000000 110200000000FF800001\n\
+                    090014005F00000000 110200000000FF800001\n\
                     010000000000000000 \n\
                     010000000000000000 0D\n";
     assert_eq!(String::from_utf8(records).unwrap(), expected);
+}
+
+/// Refused divides among them: the borders and some draws.
+#[test]
+fn records_and_answers_agree_on_admitted_lines() {
+    let operations: Vec<Operation> = Operation::all().collect();
+    let mut draw = Draw::new(1);
+    let drawn = (0..5_000).map(|_| draw.request(&operations));
+    let requests: Vec<u8> = borders::requests()
+        .into_iter()
+        .chain(drawn)
+        .flat_map(|request| request.to_line())
+        .collect();
+    let requests = String::from_utf8(requests).unwrap();
+    let mut records = Vec::new();
+    let recorded = record(requests.as_bytes(), &mut records).unwrap();
+    let (answers, answered) = text(&requests);
+    assert_eq!(recorded, answered.unwrap());
+    let expected = answers.lines().zip(requests.lines());
+    let expected: String = expected
+        .map(|(answer, line)| format!("{answer} {line}\n"))
+        .collect();
+    assert!(String::from_utf8(records).unwrap() == expected);
 }
 
 fn program(arguments: &[&str], input: &str) -> Output {
@@ -183,7 +210,7 @@ fn program_answers_what_it_makes() {
     let requests = String::from_utf8(made.stdout).unwrap();
     assert_eq!(requests.lines().count(), 500);
     assert!(requests.lines().all(|line| line.starts_with("11")));
-    let answered = program(&["answer", "--refused-flags", "handed-in"], &requests);
+    let answered = program(&["answer"], &requests);
     assert!(answered.status.success());
     assert_eq!(answered.stdout.len(), 500 * 19);
 }
@@ -206,21 +233,31 @@ fn program_reports_what_is_wrong() {
     for arguments in [
         &[][..],
         &["guess"],
-        &["answer", "--fast"],
-        &["answer", "--refused-flags", "none"],
         &["make", "--seed", "1"],
         &["make", "--seed", "x", "--count", "1"],
         &["make", "--edges", "--op", "12"],
         &["make", "--edges", "--op", "+1"],
-        &["record", "--fast"],
     ] {
         let output = program(arguments, "");
         assert_eq!(output.status.code(), Some(2), "{arguments:?}");
         assert!(!output.stderr.is_empty() && output.stdout.is_empty());
     }
-    assert!(program(&["--help"], "").status.success());
     let output = program(&["answer"], "11000000000000070002\n0D000000000000000000\n");
     assert_eq!(output.status.code(), Some(1));
     let message = String::from_utf8(output.stderr).unwrap();
     assert!(message.contains("line 2: the op is not listed (status 3)"));
+}
+
+#[test]
+fn every_command_has_help_and_names_an_unknown_option() {
+    let help = program(&["--help"], "");
+    assert!(help.status.success());
+    for command in ["answer", "make", "record"] {
+        assert_eq!(program(&[command, "--help"], ""), help);
+        let output = program(&[command, "--fast"], SESSION);
+        assert_eq!(output.status.code(), Some(2));
+        let message = String::from_utf8(output.stderr).unwrap();
+        let unknown = format!("unknown option `--fast` of {command}");
+        assert!(output.stdout.is_empty() && message.contains(&unknown));
+    }
 }
