@@ -158,7 +158,7 @@ fn divide(mode: u8, flags: u16, x: u32, y: u16) -> Numbers {
         Ok((quotient, remainder)) => done(cpu.flags(), cpu.steps(), quotient, remainder),
         Err(_) => Numbers {
             status: refusal(mode, x, y),
-            ..done(flags, cpu.steps(), 0, 0)
+            ..done(cpu.flags(), cpu.steps(), 0, 0)
         },
     }
 }

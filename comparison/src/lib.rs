@@ -7,7 +7,6 @@
 pub mod asked;
 pub mod bench;
 pub mod careful;
-pub mod differences;
 pub mod divides;
 pub mod filter;
 pub mod form;

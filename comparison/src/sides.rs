@@ -3,7 +3,6 @@
 use crate::asked::Asked;
 use hatchyarn::raw;
 pub use hatchyarn::raw::Numbers;
-use oracle::Refused;
 
 /// A side as a value, so that a test can put a wrong one in place of the port.
 pub type Side = fn(Asked) -> Numbers;
@@ -28,18 +27,6 @@ pub fn theirs(asked: Asked) -> Numbers {
             }
         }
         Err(fault) => refused(fault.status()),
-    }
-}
-
-/// What the scope asks for: as the Rust, but for the intended differences.
-pub fn asked_for(asked: Asked) -> Numbers {
-    let given = theirs(asked);
-    match Refused::of_status(given.status) {
-        Some(_) => Numbers {
-            flags: asked.flags,
-            ..given
-        },
-        None => given,
     }
 }
 

@@ -1,7 +1,6 @@
-//! What a comparison has seen: how much, what differed as intended, and what differed otherwise.
+//! What a comparison has seen: how much, and what differed.
 
 use crate::asked::Asked;
-use crate::differences::LIST;
 use crate::divides::Divides;
 use crate::sides::{self, digits, fields_apart, Numbers, Side};
 
@@ -13,10 +12,8 @@ pub struct Tally {
     ours: Side,
     pub compared: u64,
     pub divides: Divides,
-    /// Differences that fit, by the place of their entry in the list.
-    pub intended: [u64; LIST.len()],
-    /// Differences that fit no entry.
-    pub unlisted: u64,
+    /// How many answers differ. One is enough to fail.
+    pub differing: u64,
     pub shown: Vec<String>,
 }
 
@@ -26,8 +23,7 @@ impl Tally {
             ours,
             compared: 0,
             divides: Divides::default(),
-            intended: [0; LIST.len()],
-            unlisted: 0,
+            differing: 0,
             shown: Vec::new(),
         }
     }
@@ -49,26 +45,20 @@ impl Tally {
     }
 
     fn differ(&mut self, asked: Asked, ours: &Numbers, theirs: &Numbers) {
-        match LIST
-            .iter()
-            .position(|entry| (entry.fits)(asked, ours, theirs))
-        {
-            Some(entry) => self.intended[entry] += 1,
-            None => self.fail(|| {
-                format!(
-                    "{}  Hatchyarn {}  MartyPC {}  differ in {}",
-                    asked.line(),
-                    digits(ours),
-                    digits(theirs),
-                    fields_apart(ours, theirs)
-                )
-            }),
-        }
+        self.fail(|| {
+            format!(
+                "{}  Hatchyarn {}  MartyPC {}  differ in {}",
+                asked.line(),
+                digits(ours),
+                digits(theirs),
+                fields_apart(ours, theirs)
+            )
+        });
     }
 
-    /// Counts a difference that no entry explains.
+    /// Counts a difference.
     pub fn fail(&mut self, what: impl FnOnce() -> String) {
-        self.unlisted += 1;
+        self.differing += 1;
         if self.shown.len() < MOST_SHOWN {
             self.shown.push(what());
         }
@@ -76,30 +66,20 @@ impl Tally {
 
     /// What a full comparison is to meet and this one has not, each with what to do about it.
     pub fn unmet(&self) -> Vec<String> {
-        let counted = LIST.iter().zip(self.intended);
-        let differences = counted.filter(|(_, count)| *count == 0).map(|(entry, _)| {
-            format!(
-                "the intended difference '{}' was never met; mend it or take it from the list.",
-                entry.name
-            )
-        });
         let counted = self.divides.refused();
-        let refusals = counted.filter(|(_, count)| *count == 0).map(|(why, _)| {
+        let unmet = counted.filter(|(_, count)| *count == 0).map(|(why, _)| {
             format!(
                 "no divide was refused with status {}, {why}; let src/plan.rs ask for one.",
                 why.status()
             )
         });
-        differences.chain(refusals).collect()
+        unmet.collect()
     }
 
     pub fn add(&mut self, other: Tally) {
         self.compared += other.compared;
         self.divides.add(other.divides);
-        for (sum, part) in self.intended.iter_mut().zip(other.intended) {
-            *sum += part;
-        }
-        self.unlisted += other.unlisted;
+        self.differing += other.differing;
         self.shown.extend(other.shown);
         self.shown.truncate(MOST_SHOWN);
     }

@@ -1,7 +1,6 @@
 //! A comparison is worth what it can refuse: wrong answers put in place of the port's are reported.
 
 use comparison::asked::Asked;
-use comparison::differences::LIST;
 use comparison::form::Form;
 use comparison::lines::held::{self, Case, Lent};
 use comparison::lines::model::Model;
@@ -59,14 +58,14 @@ fn one_wrong_answer_is_found_and_named() {
     ];
     for (field, side) in wrong {
         let tally = at_edges(side);
-        assert_eq!(tally.unlisted, 1, "{field}");
+        assert_eq!(tally.differing, 1, "{field}");
         let [shown] = &tally.shown[..] else {
             panic!("{:?}", tally.shown)
         };
         assert!(shown.starts_with("00000000000000FF0001 "), "{shown}");
         assert!(shown.ends_with(&format!("differ in {field}")), "{shown}");
     }
-    assert_eq!(at_edges(ours).unlisted, 0);
+    assert_eq!(at_edges(ours).differing, 0);
 }
 
 #[test]
@@ -76,22 +75,45 @@ fn all_are_counted_and_some_are_shown() {
         ..ours(asked)
     };
     let tally = at_edges(side);
-    assert_eq!(tally.unlisted, tally.compared);
+    assert_eq!(tally.differing, tally.compared);
     assert_eq!(tally.shown.len(), MOST_SHOWN);
 }
 
-/// A step too many in a refused divide is not taken for the intended difference.
+/// Mode, X and Y of a divide for each refusal, in the order of their statuses.
+const REFUSED: [(u8, u32, u16); 3] = [
+    (0x00, 0x0000, 0x00),
+    (0x02, 0x0100, 0x01),
+    (0x02, 0x0080, 0x01),
+];
+
+fn divide((mode, x, y): (u8, u32, u16)) -> Asked {
+    Asked {
+        op: 0x11,
+        mode,
+        flags: 0,
+        x,
+        y,
+    }
+}
+
 #[test]
 fn a_refused_divide_with_wrong_steps_is_found() {
-    let mut tally = Tally::new(ours);
-    tally.hold(LIST[0].smallest);
-    assert_eq!((tally.intended, tally.unlisted), ([1], 0));
-    let mut tally = Tally::new(|asked| Numbers {
-        steps: ours(asked).steps + 1,
-        ..ours(asked)
-    });
-    tally.hold(LIST[0].smallest);
-    assert_eq!((tally.intended, tally.unlisted), ([0], 1));
+    for refused in REFUSED.map(divide) {
+        let mut tally = Tally::new(ours);
+        tally.hold(refused);
+        assert_eq!(tally.differing, 0);
+        let mut tally = Tally::new(|asked| Numbers {
+            steps: ours(asked).steps + 1,
+            ..ours(asked)
+        });
+        tally.hold(refused);
+        assert_eq!(tally.differing, 1);
+        assert!(
+            tally.shown[0].ends_with("differ in steps"),
+            "{:?}",
+            tally.shown
+        );
+    }
 }
 
 /// What a wrong rule for the status of a divide looks at.
@@ -199,7 +221,7 @@ fn apart(side: Side) -> [u64; 2] {
     apart
 }
 
-/// None of them is taken for the intended difference, at either width.
+/// At either width.
 #[test]
 fn a_refusal_for_the_wrong_reason_is_found() {
     let wrong: [(&str, Side); 6] = [
@@ -225,19 +247,18 @@ fn a_refusal_for_the_wrong_reason_is_found() {
     for (name, side) in wrong {
         let (tally, [bytes, words]) = (at_edges(side), apart(side));
         assert!(bytes > 0 && words > 0, "{name}: {bytes}, {words}");
-        assert_eq!(tally.unlisted, bytes + words, "{name}");
+        assert_eq!(tally.differing, bytes + words, "{name}");
         let in_status = |shown: &String| shown.contains("differ in status");
         assert!(tally.shown.iter().all(in_status), "{:?}", tally.shown);
     }
 }
 
-/// A full comparison has to meet the intended difference and every refusal.
+/// A full comparison has to meet every refusal.
 #[test]
 fn what_is_never_met_is_named() {
     let mut tally = Tally::new(ours);
     let all = tally.unmet();
     let told = [
-        "the intended difference 'flags after a refused divide'",
         "status 6, zero divisor",
         "status 8, too wide",
         "status 9, sign range",
@@ -246,15 +267,9 @@ fn what_is_never_met_is_named() {
     for (unmet, told) in all.iter().zip(told) {
         assert!(unmet.contains(told), "{unmet} does not say {told}");
     }
-    for (mode, x, y, left) in [(0, 0, 0, 2), (2, 0x0100, 1, 1), (2, 0x0080, 1, 0)] {
-        tally.hold(Asked {
-            op: 0x11,
-            mode,
-            flags: 0,
-            x,
-            y,
-        });
-        assert_eq!(tally.unmet(), all[all.len() - left..]);
+    for (met, refused) in REFUSED.map(divide).into_iter().enumerate() {
+        tally.hold(refused);
+        assert_eq!(tally.unmet(), all[met + 1..]);
     }
 }
 
@@ -273,7 +288,7 @@ fn run_with(wrong: impl FnOnce(&mut Lent, &mut Ran)) -> u64 {
         wrong(lent, &mut ran);
         ran
     });
-    tally.unlisted
+    tally.differing
 }
 
 #[test]
@@ -306,7 +321,7 @@ fn line_with(room: usize, wrong: impl FnOnce(&mut Lent, &mut u8)) -> u64 {
         wrong(lent, &mut status);
         status
     });
-    tally.unlisted
+    tally.differing
 }
 
 #[test]

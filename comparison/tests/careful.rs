@@ -1,9 +1,9 @@
-//! The Rust that the port is timed beside gives the scope's answers, or its time would mean nothing.
+//! The Rust that the port is timed beside answers as the oracle does, or its time would mean nothing.
 
 use comparison::asked::Asked;
 use comparison::form::Form;
 use comparison::lines::model::Model;
-use comparison::sides::asked_for;
+use comparison::sides::theirs;
 use comparison::{careful, filter};
 use oracle::draw::Draw;
 use oracle::request::Operation;
@@ -13,11 +13,11 @@ use std::io::Read;
 
 fn hold(asked: Asked) {
     let given = careful::ask(asked.op, asked.mode, asked.flags, asked.x, asked.y);
-    assert_eq!(given, asked_for(asked), "{}", asked.line());
+    assert_eq!(given, theirs(asked), "{}", asked.line());
 }
 
 #[test]
-fn ask_gives_the_answers_of_the_scope() {
+fn ask_answers_as_the_oracle_does() {
     for operation in Operation::all() {
         let mut take = |request| {
             hold(Asked::from(request));

@@ -1,6 +1,5 @@
 //! The program `compare`: runs the plan and says what it saw.
 
-use comparison::differences::LIST;
 use comparison::form::Form;
 use comparison::plan;
 use comparison::section::Section;
@@ -17,8 +16,8 @@ use: compare [--full] [--seed N]
   --full    everything at 8 bits, and far more at 16; several minutes on two cores
   --seed N  a decimal number that changes what is drawn; 1 if nothing is said
 
-exit: 0 all the same but for the intended differences, 1 something else differs or the full form
-never met an intended difference or a refusal of a divide, 2 the command is not understood
+exit: 0 all the same, 1 something differs or the full form never met a refusal of a divide,
+2 the command is not understood
 ";
 
 /// More would take the machine from whoever shares it.
@@ -102,23 +101,15 @@ fn timed(section: &Section, threads: usize, sum: &Tally) -> Tally {
 }
 
 fn conclude(form: Form, sum: &Tally) -> ExitCode {
-    for (entry, count) in LIST.iter().zip(sum.intended) {
-        let count = grouped(count);
-        println!("compare: {count} differ as intended: {}", entry.name);
-        println!(
-            "    the scope: {}; MartyPC {}; Hatchyarn {}",
-            entry.scope_says, entry.rust_does, entry.ours_does
-        );
-    }
     for difference in &sum.shown {
         println!("DIFFERENT: {difference}");
     }
-    println!("compare: {} differ otherwise", grouped(sum.unlisted));
+    println!("compare: {} differ", grouped(sum.differing));
     let unmet = form.choose(sum.unmet(), Vec::new());
     for what in &unmet {
         println!("compare: {what}");
     }
-    ExitCode::from(u8::from(!unmet.is_empty() || sum.unlisted > 0))
+    ExitCode::from(u8::from(!unmet.is_empty() || sum.differing > 0))
 }
 
 /// A number with its thousands apart.

@@ -2,7 +2,7 @@
 //! arithmetic: cut at line feeds, judge by the table of statuses, write 19 bytes.
 
 use crate::asked::Asked;
-use crate::sides::{asked_for, digits, refused, Numbers};
+use crate::sides::{digits, refused, theirs, Numbers};
 
 /// The bytes of an answer, with its line feed.
 pub const ANSWER: usize = 19;
@@ -69,7 +69,7 @@ fn numbers(line: &[u8]) -> Numbers {
     }
     let text = std::str::from_utf8(line).expect("digits are text");
     let field = |from, to| u32::from_str_radix(&text[from..to], 16).expect("digits are a number");
-    asked_for(Asked {
+    theirs(Asked {
         op: field(0, 2) as u8,
         mode: field(2, 4) as u8,
         flags: field(4, 8) as u16,

@@ -8,8 +8,8 @@ use crate::sides::{theirs, Numbers};
 use oracle::Refused;
 
 pub trait Told {
-    /// Flags that the function does not name are clear, and so are those of a refused divide, where
-    /// the two sides are meant to differ. What was asked tells what a function does not write.
+    /// Flags that the function does not name are clear. What was asked tells what a function does not
+    /// write.
     fn told(self, asked: Asked) -> Numbers;
 }
 
@@ -48,7 +48,7 @@ impl<T: Into<u16>> Told for Done<Result<(T, T), bool>, u16> {
     fn told(self, asked: Asked) -> Numbers {
         match self.given {
             Ok((quotient, remainder)) => accepted(self.flags, self.steps, quotient, remainder),
-            Err(_) => refused(theirs(asked).status, self.steps),
+            Err(_) => refused(theirs(asked).status, self.flags, self.steps),
         }
     }
 }
@@ -70,7 +70,9 @@ impl<T: Into<u16>> Told for Divided<T> {
                 quotient,
                 remainder,
             }) => accepted(self.flags, self.steps, quotient, remainder),
-            DivideOutcome::Refused(why) => refused(Refused::from(why).status(), self.steps),
+            DivideOutcome::Refused(why) => {
+                refused(Refused::from(why).status(), self.flags, self.steps)
+            }
         }
     }
 }
@@ -95,12 +97,9 @@ fn accepted(flags: impl Into<u16>, steps: u16, r: impl Into<u16>, s: impl Into<u
     }
 }
 
-fn refused(status: u8, steps: u16) -> Numbers {
+fn refused(status: u8, flags: impl Into<u16>, steps: u16) -> Numbers {
     Numbers {
         status,
-        flags: 0,
-        steps,
-        r: 0,
-        s: 0,
+        ..accepted(flags, steps, 0_u16, 0_u16)
     }
 }
