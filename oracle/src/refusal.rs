@@ -26,13 +26,6 @@ impl Refused {
         self as u8
     }
 
-    /// The refusal that a status tells of; nothing if it tells of none.
-    #[inline]
-    pub fn of_status(status: u8) -> Option<Refused> {
-        let is_told = |refused: &Refused| refused.status() == status;
-        Refused::ALL.into_iter().find(is_told)
-    }
-
     /// Why X cannot be divided by Y; nothing if it can.
     pub fn of(mode: Mode, x: u32, y: u16) -> Option<Refused> {
         let (dividend, divisor) = numbers(mode, x, y);
@@ -236,10 +229,6 @@ mod tests {
     #[test]
     fn each_has_its_status() {
         assert_eq!(Refused::ALL.map(Refused::status), [6, 8, 9]);
-        for status in 0..=u8::MAX {
-            let told = Refused::of_status(status).map(Refused::status);
-            assert_eq!(told, [6, 8, 9].contains(&status).then_some(status));
-        }
     }
 
     #[test]
