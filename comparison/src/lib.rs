@@ -12,6 +12,7 @@ pub mod filter;
 pub mod form;
 pub mod lines;
 pub mod plan;
+pub mod refused_flags;
 pub mod section;
 pub mod sides;
 pub mod tally;
