@@ -19,4 +19,5 @@ pub mod tally;
 
 mod bytes;
 mod judged;
+mod refused;
 mod words;

@@ -3,7 +3,7 @@
 use crate::form::Form;
 use crate::lines::sections as lines;
 use crate::section::Section;
-use crate::{bytes, judged, words};
+use crate::{bytes, judged, refused, words};
 
 pub fn sections(form: Form) -> Vec<Section> {
     vec![
@@ -14,6 +14,8 @@ pub fn sections(form: Form) -> Vec<Section> {
         bytes::aad(form),
         words::at_edges(),
         words::drawn(form),
+        refused::bytes(form),
+        refused::words(form),
         judged::ops_and_modes(form),
         judged::limits(form),
         lines::damaged(form),

@@ -2,10 +2,14 @@
 
 use crate::asked::Asked;
 use crate::divides::Divides;
+use crate::refused_flags::Ruled;
 use crate::sides::{self, digits, fields_apart, Numbers, Side};
 
 /// As many differences are shown as a reader can use; all are counted.
 pub const MOST_SHOWN: usize = 20;
+
+/// An answer, and whose it is.
+type Named = (&'static str, Numbers);
 
 #[derive(Clone, Debug)]
 pub struct Tally {
@@ -33,25 +37,53 @@ impl Tally {
         Tally::new(self.ours)
     }
 
-    /// Asks both sides.
+    /// Asks both sides, and holds the port to MartyPC.
     #[inline]
     pub fn hold(&mut self, asked: Asked) {
-        let (ours, theirs) = ((self.ours)(asked), sides::theirs(asked));
-        self.compared += 1;
-        self.divides.count(asked, &theirs);
-        if ours != theirs {
-            self.differ(asked, &ours, &theirs);
+        let [ours, theirs] = self.ask(asked);
+        self.hold_pair(asked, ours, theirs);
+    }
+
+    /// Asks both sides for a divide that is refused, and holds each to the rule, which says nothing
+    /// of the steps.
+    #[inline]
+    pub fn hold_to_rule(&mut self, asked: Asked, ruled: Ruled) {
+        for given in self.ask(asked) {
+            let expected = Numbers {
+                flags: ruled.compare.flags(),
+                steps: given.1.steps,
+                ..sides::refused(ruled.why.status())
+            };
+            self.hold_pair(asked, given, ("the rule", expected));
         }
     }
 
-    fn differ(&mut self, asked: Asked, ours: &Numbers, theirs: &Numbers) {
+    #[inline]
+    fn ask(&mut self, asked: Asked) -> [Named; 2] {
+        let (ours, theirs) = ((self.ours)(asked), sides::theirs(asked));
+        self.compared += 1;
+        self.divides.count(asked, &theirs);
+        [("Hatchyarn", ours), ("MartyPC", theirs)]
+    }
+
+    #[inline]
+    fn hold_pair(&mut self, asked: Asked, one: Named, other: Named) {
+        if one.1 != other.1 {
+            self.differ(asked, one, other);
+        }
+    }
+
+    #[cold]
+    fn differ(&mut self, asked: Asked, one: Named, other: Named) {
         self.fail(|| {
             format!(
-                "{}  Hatchyarn {}  MartyPC {}  differ in {}",
+                "{}  {} {}  {} {}  differ in {}",
                 asked.line(),
-                digits(ours),
-                digits(theirs),
-                fields_apart(ours, theirs)
+                one.0,
+                digits(&one.1),
+                other.0,
+                digits(&other.1),
+                fields_apart(&one.1, &other.1)
             )
         });
     }

@@ -1,6 +1,7 @@
 //! The plan meets what it is meant to meet, and the model says what the scope says.
 
 use comparison::asked::Asked;
+use comparison::divides::Divides;
 use comparison::form::Form;
 use comparison::lines::model::{status, Model};
 use comparison::plan;
@@ -35,6 +36,27 @@ fn drawn_divides_are_worth_asking() {
             Refused::SignRange => 1_000,
         };
         assert!(count > fewest, "{divides}");
+    }
+}
+
+/// What is held to the rule is refused, and at both widths for each reason more than now and then.
+#[test]
+fn divides_held_to_the_rule_are_refused_for_every_reason() {
+    let sections = plan::sections(QUICK).into_iter();
+    let by_rule = sections.filter(|section| section.name.ends_with("by the rule"));
+    let divides: Vec<Divides> = by_rule
+        .map(|section| section.run(1, &Tally::new(ours)).divides)
+        .collect();
+    assert_eq!(divides.len(), 2);
+    for divides in divides {
+        assert!(
+            divides.accepted == 0 && divides.all() > 1_000_000,
+            "{divides}"
+        );
+        assert!(
+            divides.refused().all(|(_, count)| count > 15_000),
+            "{divides}"
+        );
     }
 }
 
