@@ -5,12 +5,15 @@ use comparison::form::Form;
 use comparison::lines::held::{self, Case, Lent};
 use comparison::lines::model::Model;
 use comparison::plan;
-use comparison::sides::{ours, theirs, Numbers, Side};
+use comparison::refused_flags::{Divide, Ruled};
+use comparison::sides::{fields_apart, ours, theirs, Numbers, Side};
 use comparison::tally::{Tally, MOST_SHOWN};
 use hatchyarn::raw::{self, Ran};
 use oracle::edges;
 use oracle::request::Operation;
 use std::convert::Infallible;
+
+mod wrong;
 
 const QUICK: Form = Form {
     full: false,
@@ -35,10 +38,15 @@ fn but_for_one(asked: Asked, wrong: impl Fn(&mut Numbers)) -> Numbers {
     given
 }
 
-fn at_edges(side: Side) -> Tally {
+/// Runs the section of this name with a side in place of the port.
+fn run(name: &str, side: Side) -> Tally {
     let mut sections = plan::sections(QUICK).into_iter();
-    let section = sections.find(|section| section.name.ends_with("edges"));
-    section.expect("there is one").run(1, &Tally::new(side))
+    let section = sections.find(|section| section.name == name);
+    section.expect(name).run(1, &Tally::new(side))
+}
+
+fn at_edges(side: Side) -> Tally {
+    run("both widths, every combination of edges", side)
 }
 
 #[test]
@@ -116,104 +124,15 @@ fn a_refused_divide_with_wrong_steps_is_found() {
     }
 }
 
-/// What a wrong rule for the status of a divide looks at.
-struct Divide {
-    signed: bool,
-    bits: u32,
-    /// The magnitude of the quotient; none by a divisor of 0.
-    quotient: Option<u64>,
-    /// The right status.
-    status: u8,
-}
-
-/// The port, but that divides have the status of a wrong rule.
-fn by(rule: fn(&Divide) -> u8, asked: Asked) -> Numbers {
-    let given = ours(asked);
-    if asked.op != 0x11 {
-        return given;
-    }
-    let (signed, bits) = (asked.mode & 2 != 0, bits(asked));
-    let magnitude = |value: u64, bits: u32| {
-        if signed && value >> (bits - 1) != 0 {
-            (1 << bits) - value
-        } else {
-            value
-        }
-    };
-    let dividend = magnitude(asked.x.into(), 2 * bits);
-    let status = rule(&Divide {
-        signed,
-        bits,
-        quotient: dividend.checked_div(magnitude(asked.y.into(), bits)),
-        status: given.status,
-    });
-    Numbers { status, ..given }
-}
-
-fn bits(asked: Asked) -> u32 {
-    if asked.mode & 1 != 0 {
-        16
-    } else {
-        8
-    }
-}
-
-fn zero_divisor_as_too_wide(divide: &Divide) -> u8 {
-    match divide.quotient {
-        None => 8,
-        Some(_) => divide.status,
-    }
-}
-
-fn first_of_sign_range_as_too_wide(divide: &Divide) -> u8 {
-    if divide.quotient == Some(1 << (divide.bits - 1)) && divide.signed {
-        8
-    } else {
-        divide.status
-    }
-}
-
-fn last_of_sign_range_as_too_wide(divide: &Divide) -> u8 {
-    if divide.quotient == Some((1 << divide.bits) - 1) && divide.signed {
-        8
-    } else {
-        divide.status
-    }
-}
-
-fn first_too_wide_as_sign_range(divide: &Divide) -> u8 {
-    if divide.quotient == Some(1 << divide.bits) && divide.signed {
-        9
-    } else {
-        divide.status
-    }
-}
-
-fn unsigned_too_wide_as_sign_range(divide: &Divide) -> u8 {
-    if divide.status == 8 && !divide.signed {
-        9
-    } else {
-        divide.status
-    }
-}
-
-fn sign_range_of_unsigned(divide: &Divide) -> u8 {
-    let has_high_bit = divide.quotient >= Some(1 << (divide.bits - 1));
-    if divide.status == 0 && !divide.signed && has_high_bit {
-        9
-    } else {
-        divide.status
-    }
-}
-
-/// How many edges have another status than the oracle says, at 8 and at 16 bits.
-fn apart(side: Side) -> [u64; 2] {
+/// How many edges differ from MartyPC's answer in this field alone, at 8 and at 16 bits.
+fn apart(side: Side, field: &str) -> [u64; 2] {
     let mut apart = [0; 2];
     for operation in Operation::all() {
         let mut take = |request| {
             let asked = Asked::from(request);
-            let is_apart = side(asked).status != theirs(asked).status;
-            apart[usize::from(bits(asked) == 16)] += u64::from(is_apart);
+            let is_word = asked.mode & 1 != 0;
+            let is_apart = fields_apart(&side(asked), &theirs(asked)) == field;
+            apart[usize::from(is_word)] += u64::from(is_apart);
             Ok::<(), Infallible>(())
         };
         let Ok(()) = edges::each(operation, &mut take);
@@ -221,35 +140,62 @@ fn apart(side: Side) -> [u64; 2] {
     apart
 }
 
-/// At either width.
+/// Each at both widths.
 #[test]
 fn a_refusal_for_the_wrong_reason_is_found() {
-    let wrong: [(&str, Side); 6] = [
-        ("zero divisor as too wide", |asked| {
-            by(zero_divisor_as_too_wide, asked)
-        }),
-        ("first of sign range as too wide", |asked| {
-            by(first_of_sign_range_as_too_wide, asked)
-        }),
-        ("last of sign range as too wide", |asked| {
-            by(last_of_sign_range_as_too_wide, asked)
-        }),
-        ("first too wide as sign range", |asked| {
-            by(first_too_wide_as_sign_range, asked)
-        }),
-        ("unsigned too wide as sign range", |asked| {
-            by(unsigned_too_wide_as_sign_range, asked)
-        }),
-        ("sign range of unsigned", |asked| {
-            by(sign_range_of_unsigned, asked)
-        }),
-    ];
-    for (name, side) in wrong {
-        let (tally, [bytes, words]) = (at_edges(side), apart(side));
+    for (name, side) in wrong::statuses::RULES {
+        let [bytes, words] = apart(side, "status");
         assert!(bytes > 0 && words > 0, "{name}: {bytes}, {words}");
-        assert_eq!(tally.differing, bytes + words, "{name}");
-        let in_status = |shown: &String| shown.contains("differ in status");
-        assert!(tally.shown.iter().all(in_status), "{:?}", tally.shown);
+        assert_eq!(at_edges(side).differing, bytes + words, "{name}");
+    }
+}
+
+/// All that differs at the edges differs in the flags, at the width that the rule can show at.
+#[test]
+fn wrong_flags_of_a_refusal_are_found_at_edges() {
+    for (name, side, [bytes, words]) in wrong::flags::RULES {
+        assert_eq!(apart(side, "flags"), [bytes, words], "{name}");
+        assert_eq!(at_edges(side).differing, bytes + words, "{name}");
+    }
+}
+
+/// The sections of refused divides, at 8 and at 16 bits.
+const BY_RULE: [&str; 2] = [
+    "8 bits, refused divides by the rule",
+    "16 bits, refused divides by the rule",
+];
+
+/// Each at the widths at which edges show it too.
+#[test]
+fn wrong_flags_of_a_refusal_are_found_by_the_rule() {
+    for (name, side, counts) in wrong::flags::RULES {
+        for (section, count) in BY_RULE.into_iter().zip(counts) {
+            let tally = run(section, side);
+            assert_eq!(tally.differing > 0, count > 0, "{name}, {section}");
+            let is_held = |shown: &String| {
+                shown.contains(" the rule ") && shown.ends_with(" differ in flags")
+            };
+            assert!(tally.shown.iter().all(is_held), "{:?}", tally.shown);
+        }
+    }
+    for section in BY_RULE {
+        assert_eq!(run(section, ours).differing, 0, "{section}");
+    }
+}
+
+/// A wrong rule is found by both, so neither side passes unheld.
+#[test]
+fn both_sides_are_held_to_the_rule() {
+    let asked = divide((0x02, 0x00FF, 0x01));
+    let ruled = Divide::from(asked).ruled().expect("it is refused");
+    let wrong = Ruled {
+        compare: Divide::from(asked).first_compare(),
+        ..ruled
+    };
+    for (ruled, differing) in [(ruled, 0), (wrong, 2)] {
+        let mut tally = Tally::new(ours);
+        tally.hold_to_rule(asked, ruled);
+        assert_eq!(tally.differing, differing);
     }
 }
 
