@@ -97,8 +97,7 @@ enum hatchyarn_flag {
  *   SHL, ROL, ROR, RCL, RCR                      C, O       (a count of 0 clears them, but RCL and
  *   SHR, SAR                                     C           RCR give C back)
  *   unsigned multiply                            C, O
- *   signed multiply, AAA, AAS, DAA, DAS          all six
- *   divide, done or refused                      all six
+ *   signed multiply, divide, AAA, AAS, DAA, DAS  all six    (a divide whether it is done or refused)
  *   AAD                                          P, Z, S
  *
  * So ADD to SHL_AF are what the chip's ALU does and not whole instructions: the flags P, Z and S of a
