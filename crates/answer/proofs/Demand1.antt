@@ -1,12 +1,12 @@
 -- Demand 1: status 6, 8 or 9 exactly for a divide that is admitted and to which its reason applies; it gives the chart's flags and steps,
 -- and no result. Assumes nothing.
 use mathlib.Core.Path.{_≡_, refl, sym, ap, subst, _∙_}
-use mathlib.Core.Bool.{Bool, true, false, not, cond, _||_, false≢true}
+use mathlib.Core.Bool.{Bool, true, false, not, cond, _&&_, _||_, false≢true}
 use mathlib.Core.Logic.{_↔_}
 use Prim.Native.Nat.{ℕ, _+_, _^_, _<_}
 use native.Mathlib.Omega.{arith}
 use lib.Bits.{bitAnd}
-use lib.Dec.{leb, eqb}
+use lib.Dec.{leb, ltb, eqb}
 use borrow.Author.Tests.{leb-false, ltb-false, eqb-true, le-ltb, le-leb, eq-eqb, not-false}
 use Rattle.flags.specs.Numbers.{isSet}
 use Rattle.flags.specs.Word.{wordOf, flagsOf, isFlags}
@@ -16,11 +16,15 @@ use Rattle.divide.specs.Divide.{applies, refusedFlags, refusedSteps, divide}
 use Rattle.divide.specs.declared.div.Refusal.{Refusal}
 use Rattle.divide.specs.declared.div.Refusal.the-variants.{ZeroDivisor, TooWide, SignRange}
 use Rattle.divide.proofs.Refusals.{refused-whole}
+use Rattle.divide.proofs.RefusedFlags.{flags-not-seen}
 use Rattle.request.specs.Operation.{ops, listed, widthOf, modeOf, operationOf}
-use Rattle.request.specs.Judge.{raw, inLimits, judged}
+use Rattle.request.specs.Limits.{xMost, yMost}
+use Rattle.request.specs.Judge.{raw, inLimits, requestOf, judgedBy, judged}
+use Rattle.request.specs.declared.judge.Judged.the-variants.{Admitted, TooLarge}
+use Rattle.request.specs.declared.operation.Named.the-variants.{Operation as Names, WrongMode}
 use Rattle.request.specs.declared.operation.Operation.the-variants.{Divide}
 use Rattle.answer.specs.Charted.{bits, refusalStatus, ofDivided, charted}
-use Rattle.answer.specs.Asked.{Raw, asked}
+use Rattle.answer.specs.Asked.{Raw, ofJudged, asked}
 use Rattle.answer.specs.Table.{wrongMode, widthBy, tooLarge, refusedFor}
 use Rattle.answer.specs.Refused.{RefusedDivide, refusal}
 use Rattle.answer.specs.declared.answer.Answer.{Answer}
@@ -108,3 +112,28 @@ module _ (r : Raw) where
 -- the status of a reason, 6, 8 or 9, exactly for a divide that is refused for it, and then the answer is its refusal
 pub demand-1 : (why : Refusal) (r : Raw) → (asked r .status ≡ refusalStatus why ↔ RefusedDivide why r) × (RefusedDivide why r → asked r ≡ refusal why r)
 demand-1 why r = ((is-refused r why, λ d. ap (λ (a : Answer). a .status) (is-answered r why d)), is-answered r why)
+
+-- ---- the flags handed in
+
+-- two divides that differ in them alone get one answer, done or refused, where neither word has a bit outside 08D5
+pub divide-alike : (mode x y f g : ℕ) → bitAnd f 0x08D5 ≡ f → bitAnd g 0x08D5 ≡ g → asked (raw 0x11 mode f x y) ≡ asked (raw 0x11 mode g x y)
+unfolding asked judged operationOf listed ops charted
+divide-alike mode x y f g hf hg = by (ltb 0x07 mode)
+  where
+    allowed : (w : ℕ) → bitAnd w 0x08D5 ≡ w → isFlags w ≡ true
+    allowed w h = is-masked w ∙ eq-eqb (bitAnd w 0x08D5) w h
+
+    same : inLimits (Divide (modeOf mode)) f x y ≡ inLimits (Divide (modeOf mode)) g x y
+    same = ap (λ (z : Bool). leb x (xMost (Divide (modeOf mode))) && leb y (yMost (Divide (modeOf mode))) && z) (allowed f hf ∙ sym (allowed g hg))
+
+    by-limits : (k : Bool) → ofJudged (cond k (Admitted (requestOf (Divide (modeOf mode)) (raw 0x11 mode f x y))) TooLarge)
+        ≡ ofJudged (cond k (Admitted (requestOf (Divide (modeOf mode)) (raw 0x11 mode g x y))) TooLarge)
+    by-limits true = ap ofDivided (flags-not-seen (bits (widthOf mode)) (isSet 1 mode) (isSet 2 mode) x y (flagsOf f) (flagsOf g))
+    by-limits false = refl
+
+    by : (k : Bool) → ofJudged (judgedBy (cond k WrongMode (Names (Divide (modeOf mode)))) (raw 0x11 mode f x y))
+        ≡ ofJudged (judgedBy (cond k WrongMode (Names (Divide (modeOf mode)))) (raw 0x11 mode g x y))
+    by true = refl
+    by false =
+        by-limits (inLimits (Divide (modeOf mode)) f x y)
+        ∙ ap (λ (k : Bool). ofJudged (cond k (Admitted (requestOf (Divide (modeOf mode)) (raw 0x11 mode g x y))) TooLarge)) same
