@@ -18,7 +18,7 @@ static void expect(bool held, const char *what)
 static const char *const session = "11000000000000070002\n110200000000FF800001";
 static const char *const answers = "000001005100030001\n090014005F00000000\n";
 
-/* Refused divides of each width, signed and not, and under REP. All flags are handed in, and none of them is seen. */
+/* Refused divides of each width, signed and not, and under REP. All flags are handed in, and do not show. */
 static const struct refused {
     const char *line, *answer;
     uint32_t dividend;
