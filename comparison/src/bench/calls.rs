@@ -1,29 +1,28 @@
 //! One call at a time: raw numbers in, an answer by the table of statuses out.
 
-use super::counts::Counts;
-use super::drawn::{inputs, named};
+use super::drawn::Drawn;
 use super::table::{self, Row};
 use crate::asked::Asked;
 use crate::careful;
 use crate::sides::Numbers;
 use hatchyarn::raw;
-use oracle::request::Operation;
 use std::hint::black_box;
 
 /// Prints the tables. An error says which answers differ.
 pub fn print() -> Result<(), String> {
-    table::print_beside(row)
+    table::print_beside(row)?;
+    println!();
+    table::print_refused(row)
 }
 
-fn row(operation: Operation, counts: Counts) -> Row {
-    let inputs = inputs(operation, counts);
-    let ours = || black_box(sum(&inputs, raw::ask));
-    let theirs = || black_box(sum(&inputs, careful::ask));
+fn row(drawn: Drawn) -> Row {
+    let ours = || black_box(sum(&drawn.asked, raw::ask));
+    let theirs = || black_box(sum(&drawn.asked, careful::ask));
     if ours() != theirs() {
-        let (name, bits) = named(operation);
+        let (name, bits) = drawn.named();
         return Err(format!("{name} {bits}: the two sides answer differently"));
     }
-    Ok(table::beside(operation, || _ = ours(), || _ = theirs()))
+    Ok(table::beside(&drawn, || _ = ours(), || _ = theirs()))
 }
 
 /// Asks all and folds all that is answered, so that nothing can be left out.

@@ -1,21 +1,60 @@
-//! The inputs of one operation, and what the tables call it.
+//! The inputs of a row, and what the tables call it.
 
 use super::counts::Counts;
+use super::refused::RefusedDivide;
 use crate::asked::Asked;
 use oracle::draw::Draw;
-use oracle::request::{Alu, Mode, Operation, Width};
+use oracle::request::{Alu, Mode, Operation, Request, Width};
+use oracle::Refused;
 
 pub const INPUTS: usize = 4096;
 
+pub struct Drawn {
+    pub operation: Operation,
+    /// Why all of them are refused, if they are drawn so.
+    why: Option<Refused>,
+    pub asked: Vec<Asked>,
+}
+
+impl Drawn {
+    /// Requests for an operation, with these counts if it is a shift or rotate.
+    pub fn with_counts(operation: Operation, counts: Counts) -> Drawn {
+        Drawn {
+            operation,
+            why: None,
+            asked: inputs(operation, |draw| counts.request(draw, &[operation])),
+        }
+    }
+
+    /// Divides that are all refused for one reason.
+    pub fn refused(divide: RefusedDivide) -> Drawn {
+        let operation = divide.operation();
+        Drawn {
+            operation,
+            why: Some(divide.why()),
+            asked: inputs(operation, |draw| divide.request(draw)),
+        }
+    }
+
+    /// The name and the bits.
+    pub fn named(&self) -> (String, u32) {
+        let (name, bits) = named(self.operation);
+        match self.why {
+            Some(why) => (format!("{name}, {why}"), bits),
+            None => (name, bits),
+        }
+    }
+}
+
 /// Drawn from the operation's own numbers, so that a row does not depend on those before it.
-pub fn inputs(operation: Operation, counts: Counts) -> Vec<Asked> {
+fn inputs(operation: Operation, request: impl Fn(&mut Draw) -> Request) -> Vec<Asked> {
     let (op, mode) = operation.code();
     let mut draw = Draw::new(u64::from(op) << 8 | u64::from(mode));
-    let one = |_| Asked::from(counts.request(&mut draw, &[operation]));
+    let one = |_| Asked::from(request(&mut draw));
     (0..INPUTS).map(one).collect()
 }
 
-pub fn named(operation: Operation) -> (String, u32) {
+fn named(operation: Operation) -> (String, u32) {
     let of_mode = |name: &str, mode: Mode| {
         let sign = if mode.signed { "I" } else { "" };
         let rep = if mode.rep { "REP " } else { "" };

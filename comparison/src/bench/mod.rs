@@ -8,5 +8,6 @@ mod files;
 pub mod functions;
 mod memory;
 pub mod programs;
+mod refused;
 mod rounds;
 mod table;

@@ -1,7 +1,8 @@
 //! Tables of times by the operation, in nanoseconds a call.
 
-use super::counts::{has_count, Counts, FULL, USUAL};
-use super::drawn::{named, INPUTS};
+use super::counts::{has_count, FULL, USUAL};
+use super::drawn::{Drawn, INPUTS};
+use super::refused::RefusedDivide;
 use super::rounds::{self, Spread};
 use oracle::request::Operation;
 use std::convert::Infallible;
@@ -17,17 +18,26 @@ pub type Row = Result<String, String>;
 
 /// Prints the two tables of both sides beside each other: all operations, then the shifts and
 /// rotates again with longer counts.
-pub fn print_beside(row: impl Fn(Operation, Counts) -> Row) -> Result<(), String> {
-    let columns = ["Hatchyarn", "MartyPC's Rust", "ratio"].map(String::from);
-    let turns = "the two in turn";
+pub fn print_beside(row: impl Fn(Drawn) -> Row) -> Result<(), String> {
     let inputs = format!("counts of shifts {USUAL}, divides mostly accepted");
-    let rows = Operation::all().map(|operation| row(operation, USUAL));
-    print(&inputs, turns, &columns, rows)?;
+    let all = Operation::all().map(|operation| Drawn::with_counts(operation, USUAL));
+    print_sides(&inputs, all.map(&row))?;
     println!();
     let inputs = format!("counts of shifts {FULL}");
     let shifts = Operation::all().filter(has_count);
-    let rows = shifts.map(|operation| row(operation, FULL));
-    print(&inputs, turns, &columns, rows)
+    let shifts = shifts.map(|operation| Drawn::with_counts(operation, FULL));
+    print_sides(&inputs, shifts.map(&row))
+}
+
+/// Prints the table of refused divides, both sides beside each other.
+pub fn print_refused(row: impl Fn(Drawn) -> Row) -> Result<(), String> {
+    let divides = RefusedDivide::all().map(Drawn::refused);
+    print_sides("divides all refused for the reason named", divides.map(row))
+}
+
+fn print_sides(inputs: &str, rows: impl Iterator<Item = Row>) -> Result<(), String> {
+    let columns = ["Hatchyarn", "MartyPC's Rust", "ratio"].map(String::from);
+    print(inputs, "the two in turn", &columns, rows)
 }
 
 /// Prints a table, each row as soon as it is measured.
@@ -51,16 +61,16 @@ pub fn print(
     Ok(())
 }
 
-/// Measures both sides of an operation.
+/// Measures both sides on what is drawn.
 #[inline(always)]
-pub fn beside(operation: Operation, ours: impl Fn(), theirs: impl Fn()) -> String {
+pub fn beside(drawn: &Drawn, ours: impl Fn(), theirs: impl Fn()) -> String {
     let [ours, theirs] = in_turn(ours, theirs);
     let ratio = ours.median / theirs.median;
-    row(operation, &format!("{ours:.1} | {theirs:.1} | {ratio:.2}"))
+    row(drawn, &format!("{ours:.1} | {theirs:.1} | {ratio:.2}"))
 }
 
-pub fn row(operation: Operation, cells: &str) -> String {
-    let (name, bits) = named(operation);
+pub fn row(drawn: &Drawn, cells: &str) -> String {
+    let (name, bits) = drawn.named();
     format!("| {name} | {bits} | {cells} |")
 }
 

@@ -4,6 +4,7 @@ use super::pair::{Input, Measured, Pair};
 use super::row;
 use super::told::Told;
 use crate::bench::counts::{has_count, Counts, MOST};
+use crate::bench::drawn::Drawn;
 use crate::bench::table::{self, Row};
 use oracle::request::Operation;
 use std::mem::MaybeUninit;
@@ -28,17 +29,16 @@ pub fn print() -> Result<(), String> {
 
 /// The row of the two counts on either side.
 struct ByCount {
-    operation: Operation,
     short: Pair,
     long: Pair,
 }
 
 impl ByCount {
     fn new(operation: Operation) -> ByCount {
+        let pair = |counts| Pair::new(Drawn::with_counts(operation, counts));
         ByCount {
-            operation,
-            short: Pair::new(operation, SHORT),
-            long: Pair::new(operation, LONG),
+            short: pair(SHORT),
+            long: pair(LONG),
         }
     }
 
@@ -66,7 +66,7 @@ impl Measured for ByCount {
         self.short.compare(&ours, &theirs)?;
         self.long.compare(&ours, &theirs)?;
         let (ours, theirs) = (self.cells(ours), self.cells(theirs));
-        Ok(table::row(self.operation, &format!("{ours} | {theirs}")))
+        Ok(table::row(&self.short.drawn, &format!("{ours} | {theirs}")))
     }
 }
 

@@ -9,7 +9,7 @@ pub mod port;
 mod processor;
 mod told;
 
-use super::counts::Counts;
+use super::drawn::Drawn;
 use super::table::{self, Row};
 use oracle::request::{Operation, Width};
 use pair::{Measured, Pair};
@@ -18,11 +18,13 @@ use pair::{Measured, Pair};
 pub fn print() -> Result<(), String> {
     table::print_beside(beside)?;
     println!();
-    by_count::print()
+    by_count::print()?;
+    println!();
+    table::print_refused(beside)
 }
 
-fn beside(operation: Operation, counts: Counts) -> Row {
-    row(operation, &Pair::new(operation, counts))
+fn beside(drawn: Drawn) -> Row {
+    row(drawn.operation, &Pair::new(drawn))
 }
 
 fn row(operation: Operation, pair: &impl Measured) -> Row {

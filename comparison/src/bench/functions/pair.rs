@@ -3,11 +3,9 @@
 use super::given::Flags;
 use super::told::Told;
 use crate::asked::Asked;
-use crate::bench::counts::Counts;
-use crate::bench::drawn;
+use crate::bench::drawn::Drawn;
 use crate::bench::table::{self, Row};
 use crate::sides::{digits, Numbers};
-use oracle::request::Operation;
 use std::hint::black_box;
 use std::mem::MaybeUninit;
 
@@ -46,20 +44,14 @@ pub trait Measured {
 
 /// The row of the two sides beside each other.
 pub struct Pair {
-    operation: Operation,
-    asked: Vec<Asked>,
+    pub drawn: Drawn,
     inputs: Vec<Input>,
 }
 
 impl Pair {
-    pub fn new(operation: Operation, counts: Counts) -> Pair {
-        let asked = drawn::inputs(operation, counts);
-        let inputs = asked.iter().copied().map(Input::from).collect();
-        Pair {
-            operation,
-            asked,
-            inputs,
-        }
+    pub fn new(drawn: Drawn) -> Pair {
+        let inputs = drawn.asked.iter().copied().map(Input::from).collect();
+        Pair { drawn, inputs }
     }
 
     /// An error shows the first input that the two sides answer differently.
@@ -68,7 +60,7 @@ impl Pair {
         ours: impl Fn(&Input, &mut MaybeUninit<R>),
         theirs: impl Fn(&Input, &mut MaybeUninit<S>),
     ) -> Result<(), String> {
-        for (input, asked) in self.inputs.iter().zip(&self.asked) {
+        for (input, asked) in self.inputs.iter().zip(&self.drawn.asked) {
             let [ours, theirs] = [answer(input, *asked, &ours), answer(input, *asked, &theirs)];
             if ours != theirs {
                 let (line, ours, theirs) = (asked.line(), digits(&ours), digits(&theirs));
@@ -97,7 +89,7 @@ impl Measured for Pair {
     ) -> Row {
         self.compare(&ours, &theirs)?;
         let (ours, theirs) = (|| self.pass(&ours), || self.pass(&theirs));
-        Ok(table::beside(self.operation, ours, theirs))
+        Ok(table::beside(&self.drawn, ours, theirs))
     }
 }
 
@@ -114,11 +106,12 @@ fn answer<R: Told>(
 
 #[cfg(test)]
 mod tests {
-    use super::super::given::ResultCoa;
+    use super::super::given::{Done, ResultCoa};
     use super::super::martypc;
     use super::*;
     use crate::bench::counts::USUAL;
-    use oracle::request::{Alu, Width};
+    use crate::bench::refused::RefusedDivide;
+    use oracle::request::{Alu, Operation, Width};
 
     #[test]
     fn a_wrong_answer_is_told_and_nothing_is_timed() {
@@ -128,9 +121,28 @@ mod tests {
         let wrong = |input: &Input, out: &mut MaybeUninit<ResultCoa<u8>>| {
             martypc::alu_adc(out, input.x as u8, input.y as u8, input.carry);
         };
-        let pair = Pair::new(Operation::Alu(Alu::Add, Width::Byte), USUAL);
+        let add = Operation::Alu(Alu::Add, Width::Byte);
+        let pair = Pair::new(Drawn::with_counts(add, USUAL));
         let told = pair.row(wrong, right).unwrap_err();
         assert!(told.starts_with("0000"), "{told}");
         assert!(told.contains(" and MartyPC's 00"), "{told}");
+    }
+
+    #[test]
+    fn a_refused_divide_with_the_flags_handed_in_is_told() {
+        type Out = MaybeUninit<Done<Result<(u8, u8), bool>, u16>>;
+        let right = |input: &Input, out: &mut Out| {
+            martypc::div8(out, input.x as u16, input.y as u8, false, false, input.word);
+        };
+        let wrong = |input: &Input, out: &mut Out| {
+            right(input, out);
+            // SAFETY: it has just been written.
+            unsafe { out.assume_init_mut() }.flags = input.word;
+        };
+        let zero_divisor = RefusedDivide::all().next().unwrap();
+        let pair = Pair::new(Drawn::refused(zero_divisor));
+        let told = pair.row(wrong, right).unwrap_err();
+        assert!(told.starts_with("1100"), "{told}");
+        assert!(told.contains(" and MartyPC's 06"), "{told}");
     }
 }
