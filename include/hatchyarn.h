@@ -104,12 +104,13 @@ enum hatchyarn_flag {
  * sum or a shift are left to the caller. They count no steps, and neither do DAA and DAS.
  *
  * After the statuses 3 to 5 all of it is 0. After a refused divide the steps are those up to the trap, r and
- * s are 0, and the flags are those that the handler of the trap finds in the word that the chip pushes; its
- * other bits are the caller's. C is clear. A, O, S, Z and P are those of a compare, left side less right:
+ * s are 0, and the flags are those that the handler of the trap finds in the word that the chip pushes; the
+ * word's other bits are the caller's. C is clear. A, O, S, Z and P are those of a compare, left side less right:
  *
  *   HATCHYARN_ZERO_DIVISOR, HATCHYARN_TOO_WIDE   the first: the dividend's upper half with the divisor
- *   HATCHYARN_SIGN_RANGE                         the last: the remainder of the dividend without its last
- *                                                bit, doubled, plus that bit, with the divisor
+ *   HATCHYARN_SIGN_RANGE                         the last: X / 2 % Y * 2 + X % 2 with the divisor Y. The
+ *                                                dividend X without its last bit is divided, the
+ *                                                remainder doubled, and that bit added
  *
  * In a signed divide both operands are taken without their signs. S is bit 15 of the difference, so that it is
  * clear at 8 bits. */

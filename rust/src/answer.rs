@@ -62,9 +62,10 @@ pub enum Refusal {
         /// C is clear, and A, O, S, Z and P are those of a compare, left side less right. For
         /// [`ZeroDivisor`](DivideRefusal::ZeroDivisor) and [`TooWide`](DivideRefusal::TooWide) it is
         /// the first, of the dividend's upper half with the divisor. For
-        /// [`SignRange`](DivideRefusal::SignRange) it is the last, of the remainder of the dividend
-        /// without its last bit, doubled, plus that bit, with the divisor. In a signed divide both
-        /// operands are taken without their signs. S is bit 15 of the difference, so it is clear at 8 bits.
+        /// [`SignRange`](DivideRefusal::SignRange) it is the last, of `x / 2 % y * 2 + x % 2` with the
+        /// divisor `y`: the dividend `x` without its last bit is divided, the remainder doubled, and
+        /// that bit added. In a signed divide both operands are taken without their signs. S is bit 15
+        /// of the difference, so it is clear at 8 bits.
         flags: Flags,
         /// The steps up to the refusal.
         steps: u16,

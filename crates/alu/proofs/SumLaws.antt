@@ -1,5 +1,5 @@
--- Addition and subtraction over the width n: the tests of bits in the code are the carries and the signed overflow of the definitions.
--- Assumes nothing.
+-- Addition and subtraction over the width n: the tests of bits in the code are the carries and the signed overflow of the definitions;
+-- and what taking 0 away leaves. Assumes nothing.
 use mathlib.Core.Path.{_≡_, refl, sym, ap, ap₂, _∙_}
 use mathlib.Core.Bool.{Bool, true, false, not, _&&_}
 use mathlib.Core.Logic.{_⊎_, inl, inr}

@@ -1,5 +1,5 @@
 -- Demand 1: status 6, 8 or 9 exactly for a divide that is admitted and to which its reason applies; it gives the chart's flags and steps,
--- and no result. Assumes nothing.
+-- and no result. Besides: the flags handed in change nothing of a divide. Assumes nothing.
 use mathlib.Core.Path.{_≡_, refl, sym, ap, subst, _∙_}
 use mathlib.Core.Bool.{Bool, true, false, not, cond, _&&_, _||_, false≢true}
 use mathlib.Core.Logic.{_↔_}

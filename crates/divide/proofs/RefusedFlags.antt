@@ -1,7 +1,7 @@
 -- The flags that a refused divide leaves, over the width n: by its reason, those of the first compare or of the last; C is clear; the flags
 -- handed in are not seen. Assumes nothing.
 use mathlib.Core.Path.{_≡_, refl, sym, ap, ap₂, _∙_}
-use mathlib.Core.Bool.{Bool, true, false, cond, _||_, or-true, false≢true}
+use mathlib.Core.Bool.{Bool, true, false, _||_, or-true, false≢true}
 use Prim.Native.Nat.{ℕ, zero, suc, _+_, _-_, _*_, _/_, _^_, _≤_, _<_}
 use native.Mathlib.Nat.{div-lt-iff-lt-mul}
 use native.Mathlib.Omega.{arith}
@@ -19,19 +19,13 @@ use Rattle.alu.specs.Sum.{sub}
 use Rattle.alu.proofs.SumLaws.{sub-nothing}
 use Rattle.divide.specs.Cord.{shifted, Road, roadBy, lastBy, lastCompare}
 use Rattle.divide.specs.Flags.{compareFlags}
-use Rattle.divide.specs.Divide.{Divided, refused, accepts, applies, dividendOf, divisorOf, atFirst, refusedFlags, divide}
+use Rattle.divide.specs.Divide.{Divided, refused, applies, dividendOf, divisorOf, atFirst, refusedFlags, divide}
 use Rattle.divide.specs.declared.div.Refusal.{Refusal}
 use Rattle.divide.specs.declared.div.Refusal.the-variants.{ZeroDivisor, TooWide, SignRange}
 use Rattle.divide.proofs.RoadLaws.{never-out}
 use Rattle.divide.proofs.Refusals.{first-two, one-alone, refused-whole, refused-for}
 
--- ---- what the flags handed in are worth: nothing. A divide sets all six
-
-compare-alone : (n left right : ℕ) (carry : Bool) (f g : Flags) → compareFlags n left right carry f ≡ compareFlags n left right carry g
-unfolding compareFlags szp
-compare-alone n left right carry f g = refl
-
--- accepted or refused
+-- a divide sets all six, accepted or refused, so that those handed in are not seen
 pub flags-not-seen : (n : ℕ) (s rep : Bool) (d b : ℕ) (f g : Flags) → divide n s rep d b f ≡ divide n s rep d b g
 unfolding divide compareFlags szp
 flags-not-seen n true rep d b f g = refl
@@ -39,7 +33,7 @@ flags-not-seen n false rep d b f g = refl
 
 -- ---- by the reason
 
-module _ (n : ℕ) (s : Bool) (d b : ℕ) (hn : 0 < n) (hd : d < 2 ^ (n + n)) (hb : b < 2 ^ n) (rep : Bool) (f : Flags) where
+module _ (n : ℕ) (s : Bool) (d b : ℕ) (hn : 0 < n) (rep : Bool) (f : Flags) where
   flags-for : (why : Refusal) → divide n s rep d b f .outcome ≡ refused why → divide n s rep d b f .flags ≡ refusedFlags n s d b f
   flags-for why h = ap (λ (a : Divided). a .flags) (refused-whole n s d b hn f rep why (refused-for n s d b hn f rep why .0 h))
 
@@ -48,11 +42,12 @@ module _ (n : ℕ) (s : Bool) (d b : ℕ) (hn : 0 < n) (hd : d < 2 ^ (n + n)) (h
   unfolding compareFlags szp
   refused-c why h = ap (λ (g : Flags). g .carry) (flags-for why h)
 
-  abbrev First : Type 0
+module _ (n : ℕ) (s : Bool) (d b : ℕ) (hn : 0 < n) (hd : d < 2 ^ (n + n)) (hb : b < 2 ^ n) (rep : Bool) (f : Flags) where
+  abbrev pub First : Type 0
   First = divide n s rep d b f .flags ≡ compareFlags n (dividendOf n s d / 2 ^ n) (divisorOf n s b) false f
 
   first : (why : Refusal) → divide n s rep d b f .outcome ≡ refused why → atFirst n s d b ≡ true → First
-  first why h e = flags-for why h ∙ rw e refl
+  first why h e = flags-for n s d b hn rep f why h ∙ rw e refl
 
   -- a divisor of 0 and a quotient too wide leave the flags of the first compare
   pub zero-divisor-flags : divide n s rep d b f .outcome ≡ refused ZeroDivisor → First
@@ -119,7 +114,7 @@ module _ (n d b : ℕ) (hn : 0 < n) (hd : d < 2 ^ (n + n)) (hb : b < 2 ^ n) (rep
   later = first-two n true d b hn hd hb ∙ ap₂ (λ (x y : Bool). x || y) (not-also ZeroDivisor refl) (not-also TooWide refl)
 
   pub sign-range-flags : divide n true rep d b f .flags ≡ compareFlags n (lastCompare n (divisorOf n true b) n (dividendOf n true d)) (divisorOf n true b) false f
-  sign-range-flags = flags-for n true d b hn hd hb rep f SignRange h ∙ rw later refl
+  sign-range-flags = flags-for n true d b hn rep f SignRange h ∙ rw later refl
 
   pub sign-range-compare : lastCompare n (divisorOf n true b) n (dividendOf n true d) ≡ shifted (divisorOf n true b) (dividendOf n true d)
   sign-range-compare =
