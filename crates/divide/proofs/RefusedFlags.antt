@@ -113,9 +113,11 @@ module _ (n d b : ℕ) (hn : 0 < n) (hd : d < 2 ^ (n + n)) (hb : b < 2 ^ n) (rep
   later : atFirst n true d b ≡ false
   later = first-two n true d b hn hd hb ∙ ap₂ (λ (x y : Bool). x || y) (not-also ZeroDivisor refl) (not-also TooWide refl)
 
+  -- the flags are those of the last compare made
   pub sign-range-flags : divide n true rep d b f .flags ≡ compareFlags n (lastCompare n (divisorOf n true b) n (dividendOf n true d)) (divisorOf n true b) false f
   sign-range-flags = flags-for n true d b hn rep f SignRange h ∙ rw later refl
 
+  -- which holds to the divisor what the dividend without its last bit leaves, doubled, with that bit
   pub sign-range-compare : lastCompare n (divisorOf n true b) n (dividendOf n true d) ≡ shifted (divisorOf n true b) (dividendOf n true d)
   sign-range-compare =
       let some : 0 < divisorOf n true b = omega (arith, leb-false (divisorOf n true b) (dividendOf n true d / 2 ^ n) later) in
