@@ -1,4 +1,5 @@
-// The divides. CORD tells which compare it made last and what C is then, so the flags are one compare's, accepted or refused.
+// The divides. CORD tells which compare it made last and what C is then, so that the flags are those
+// of one compare, accepted or refused.
 ghost use mathlib.Core.Path.{_≡_};
 ghost use Rattle.flags.specs.Parity.{ParityTable};
 ghost use Rattle.divide.specs.Flags.{compareFlags};
@@ -84,7 +85,7 @@ fn unsigned_div8(dividend: u16, divisor: u8, flags: Flags, table: &[u8; 256]) ->
     }
 }
 
-// What POSTIDIV's answer makes of the divide. C and O are cleared where it is accepted, and only there.
+// What POSTIDIV's answer makes of the divide. C and O are cleared only where it is accepted.
 fn finish8(post: PostIdiv8, compare: Flags) -> Divided8
     ensures { λ r. ⌜ divided8 r ≡ finished (post8Answer post) compare ⌝ }
 {
@@ -207,7 +208,7 @@ fn unsigned_div16(dividend: u32, divisor: u16, flags: Flags, table: &[u8; 256]) 
     }
 }
 
-// What POSTIDIV's answer makes of the divide. C and O are cleared where it is accepted, and only there.
+// What POSTIDIV's answer makes of the divide. C and O are cleared only where it is accepted.
 fn finish16(post: PostIdiv16, compare: Flags) -> Divided16
     ensures { λ r. ⌜ divided16 r ≡ finished (post16Answer post) compare ⌝ }
 {
