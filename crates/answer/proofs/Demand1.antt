@@ -31,6 +31,10 @@ use Rattle.answer.specs.declared.answer.Answer.{Answer}
 use Rattle.answer.proofs.Rows.{both}
 use Rattle.answer.proofs.Table.{statuses}
 
+-- a word with no bit outside 08D5 is a flags word
+flags-alone : (w : ℕ) → bitAnd w 0x08D5 ≡ w → isFlags w ≡ true
+flags-alone w h = is-masked w ∙ eq-eqb (bitAnd w 0x08D5) w h
+
 -- ---- a refused divide is answered its refusal
 
 refused-is : (why : Refusal) (n : ℕ) (s rep : Bool) (d b : ℕ) (f : Flags) → 0 < n → applies why n s d b ≡ true
@@ -52,17 +56,12 @@ module _ (why : Refusal) (mode flags x y : ℕ) (refused : RefusedDivide why (ra
       by true e = rw e
       by false e = rw e
 
-  kept : wordOf (flagsOf flags) ≡ flags
-  unfolding isFlags
-  kept = eqb-true (wordOf (flagsOf flags)) flags (is-masked flags ∙ eq-eqb (bitAnd flags 0x08D5) flags (refused .flags))
-
   admitted : inLimits (Divide (modeOf mode)) flags x y ≡ true
-  unfolding isFlags
   admitted = by (isSet 0 mode) refl (refused .dividend) (refused .divisor)
     where
       by : (k : Bool) → isSet 0 mode ≡ k → x < 2 ^ (cond k 16 8 + cond k 16 8) → y < 2 ^ cond k 16 8 → inLimits (Divide (modeOf mode)) flags x y ≡ true
-      by true e hx hy = rw (e, le-leb x 0xFFFF_FFFF (omega arith), le-leb y 0xFFFF (omega arith)) (eq-eqb (wordOf (flagsOf flags)) flags kept)
-      by false e hx hy = rw (e, le-leb x 0xFFFF (omega arith), le-leb y 0xFF (omega arith)) (eq-eqb (wordOf (flagsOf flags)) flags kept)
+      by true e hx hy = rw (e, le-leb x 0xFFFF_FFFF (omega arith), le-leb y 0xFFFF (omega arith)) (flags-alone flags (refused .flags))
+      by false e hx hy = rw (e, le-leb x 0xFFFF (omega arith), le-leb y 0xFF (omega arith)) (flags-alone flags (refused .flags))
 
   answered : asked (raw 0x11 mode flags x y) ≡ refusal why (raw 0x11 mode flags x y)
   unfolding asked judged operationOf listed ops charted
@@ -120,11 +119,8 @@ pub divide-alike : (mode x y f g : ℕ) → bitAnd f 0x08D5 ≡ f → bitAnd g 0
 unfolding asked judged operationOf listed ops charted
 divide-alike mode x y f g hf hg = by (ltb 0x07 mode)
   where
-    allowed : (w : ℕ) → bitAnd w 0x08D5 ≡ w → isFlags w ≡ true
-    allowed w h = is-masked w ∙ eq-eqb (bitAnd w 0x08D5) w h
-
     same : inLimits (Divide (modeOf mode)) f x y ≡ inLimits (Divide (modeOf mode)) g x y
-    same = ap (λ (z : Bool). leb x (xMost (Divide (modeOf mode))) && leb y (yMost (Divide (modeOf mode))) && z) (allowed f hf ∙ sym (allowed g hg))
+    same = ap (λ (z : Bool). leb x (xMost (Divide (modeOf mode))) && leb y (yMost (Divide (modeOf mode))) && z) (flags-alone f hf ∙ sym (flags-alone g hg))
 
     by-limits : (k : Bool) → ofJudged (cond k (Admitted (requestOf (Divide (modeOf mode)) (raw 0x11 mode f x y))) TooLarge)
         ≡ ofJudged (cond k (Admitted (requestOf (Divide (modeOf mode)) (raw 0x11 mode g x y))) TooLarge)

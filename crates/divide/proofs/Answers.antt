@@ -30,7 +30,7 @@ manual-refuses n s rep d b f = by (accepts n s d b) refl ∙ ap not (manual-acce
     either false y = refl
 
 -- 0 is 0, signed or not
-nothing : (n : ℕ) (s : Bool) → magnitude s n 0 ≡ 0
+pub nothing : (n : ℕ) (s : Bool) → magnitude s n 0 ≡ 0
 unfolding signed
 nothing n true = rw (lt-leb (top n) 0 (pow-pos (n - 1)))
 nothing n false = refl

@@ -33,6 +33,10 @@ use Rattle.divide.specs.declared.div.Refusal.the-variants.{ZeroDivisor, 
 pub below : (d b m : ℕ) → 0 < m → d / m < b → d / b < m
 below d b m hm h = let hb : 0 < b = omega arith in div-lt-iff-lt-mul hb .1 (subst (λ (x : ℕ). d < x) (mul-comm b m) (div-lt-iff-lt-mul hm .0 h))
 
+-- a signed divisor's magnitude is at most half the range
+pub divisor-half : (n b : ℕ) → 0 < n → b < 2 ^ n → divisorOf n true b * 2 ≤ 2 ^ n
+divisor-half n b hn hb = omega (arith, magnitude-plain n b hb, plain-lt n b hn hb, top-twice n hn)
+
 -- ---- what CORD's answer tells
 
 -- of a divide that it accepts

@@ -1,23 +1,22 @@
 -- The steps of an accepted signed divide, by its quotient's magnitude and the two signs alone; and the most that a divide takes.
 -- Assumes nothing.
-use mathlib.Core.Path.{_≡_, refl, sym, ap, _∙_, subst}
+use mathlib.Core.Path.{_≡_, refl, sym, ap, _∙_}
 use mathlib.Core.Bool.{Bool, true, false, not, xor, _&&_, false≢true}
 use mathlib.Core.Logic.{⊎-elim}
-use Prim.Native.Nat.{ℕ, _+_, _-_, _*_, _/_, _%_, _^_, _≤_, _<_}
-use native.Mathlib.Nat.{pow-suc}
+use Prim.Native.Nat.{ℕ, _+_, _-_, _*_, _/_, _^_, _≤_, _<_}
 use native.Mathlib.Omega.{arith}
 use lib.Count.{ones, ones-le}
-use lib.Dec.{eqb, ltb}
-use lib.IntN.{ℤ, natAbs}
+use lib.Dec.{ltb}
+use lib.IntN.{natAbs}
 use borrow.Author.Tests.{ltb-true}
 use Rattle.flags.specs.Numbers.{top, topSet}
 use Rattle.flags.specs.declared.word.Flags.{Flags}
 use Rattle.flags.proofs.Powers.{top-twice}
-use Rattle.flags.proofs.SignLaws.{plain-lt, magnitude-plain, abs-sign}
+use Rattle.flags.proofs.SignLaws.{abs-sign}
 use Rattle.divide.specs.Divide.{accepts, quotientOf, dividendOf, divisorOf, atFirst, preSteps, refusedSteps, divide}
-use Rattle.divide.specs.Cord.{cordSteps, noBorrows}
+use Rattle.divide.specs.Cord.{noBorrows}
 use Rattle.divide.specs.StepLog.{shelfMagnitude, logged}
-use Rattle.divide.proofs.DivLaws.{below, pre-most, zero-or-not, rule, quotient-by}
+use Rattle.divide.proofs.DivLaws.{below, divisor-half, pre-most, zero-or-not, rule, quotient-by}
 use Rattle.divide.proofs.CordLaws.{most-ones}
 use Rattle.divide.proofs.RoadLaws.{plain-ones}
 
@@ -31,12 +30,9 @@ module _ (n d b : ℕ) (rep : Bool) (f : Flags) (hn : 0 < n) (hd : d < 2 ^ (n + 
   in-range : dividendOf n true d / divisorOf n true b < top n
   in-range = ltb-true (dividendOf n true d / divisorOf n true b) (top n) (sym (rule n d b rep hn hd hb divisor-pos) ∙ agreed)
 
-  divisor-half : divisorOf n true b * 2 ≤ 2 ^ n
-  divisor-half = omega (arith, magnitude-plain n b hb, plain-lt n b hn hb, top-twice n hn)
-
   by-no-borrow : noBorrows n (divisorOf n true b) n (dividendOf n true d) ≡ ones (dividendOf n true d / divisorOf n true b)
   by-no-borrow =
-      plain-ones n (divisorOf n true b) n (dividendOf n true d) divisor-pos divisor-half
+      plain-ones n (divisorOf n true b) n (dividendOf n true d) divisor-pos (divisor-half n b hn hb)
       (below (dividendOf n true d) (2 ^ n) (divisorOf n true b) divisor-pos (omega (arith, in-range, top-twice n hn)))
 
   -- what the log shows of an accepted signed divide

@@ -7,8 +7,7 @@ use native.Mathlib.Nat.{div-lt-iff-lt-mul}
 use native.Mathlib.Omega.{arith}
 use lib.Dec.{leb}
 use lib.Pow.{pow-add, pow-pos}
-use borrow.Author.Tests.{leb-false, lt-leb, eqb-true}
-use Rattle.flags.specs.Numbers.{top}
+use borrow.Author.Tests.{leb-false, eqb-true}
 use Rattle.flags.specs.Word.{setCOA}
 use Rattle.flags.specs.Szp.{szp}
 use Rattle.flags.proofs.Powers.{top-twice}
@@ -23,6 +22,8 @@ use Rattle.divide.specs.Divide.{Divided, refused, applies, dividendOf, d
 use Rattle.divide.specs.declared.div.Refusal.{Refusal}
 use Rattle.divide.specs.declared.div.Refusal.the-variants.{ZeroDivisor, TooWide, SignRange}
 use Rattle.divide.proofs.RoadLaws.{never-out}
+use Rattle.divide.proofs.DivLaws.{divisor-half}
+use Rattle.divide.proofs.Answers.{nothing}
 use Rattle.divide.proofs.Refusals.{first-two, one-alone, refused-whole, refused-for}
 
 -- a divide sets all six, accepted or refused, so that those handed in are not seen
@@ -58,11 +59,6 @@ module _ (n : ℕ) (s : Bool) (d b : ℕ) (hn : 0 < n) (hd : d < 2 ^ (n + n)) (h
 
 -- ---- a divisor of 0: the upper half less 0, so that A, C and O are clear, and S, Z and P are those of the upper half itself
 
--- 0 has the magnitude 0, signed or not
-no-divisor : (n : ℕ) (s : Bool) (b : ℕ) → 0 < n → b ≡ 0 → divisorOf n s b ≡ 0
-no-divisor n true b hn e = magnitude-plain n b (omega (arith, pow-pos n)) ∙ rw (e, lt-leb (top n) 0 (pow-pos (n - 1))) refl
-no-divisor n false b hn e = e
-
 upper-fits : (n : ℕ) (s : Bool) (d : ℕ) → 0 < n → d < 2 ^ (n + n) → dividendOf n s d / 2 ^ n < 2 ^ n
 upper-fits n s d hn hd = div-lt-iff-lt-mul (pow-pos n) .1 (rw (← pow-add 2 n n) (within s))
   where
@@ -75,7 +71,7 @@ module _ (n : ℕ) (s : Bool) (d b : ℕ) (hn : 0 < n) (hd : d < 2 ^ (n + n)) (h
   pub by-zero-leaves : divide n s rep d b f .flags ≡ szp 16 (dividendOf n s d / 2 ^ n) (setCOA false false false f)
   unfolding compareFlags
   by-zero-leaves =
-      let none = no-divisor n s b hn (eqb-true b 0 (refused-for n s d b hn f rep ZeroDivisor .0 h)) in
+      let none : divisorOf n s b ≡ 0 = ap (divisorOf n s) (eqb-true b 0 (refused-for n s d b hn f rep ZeroDivisor .0 h)) ∙ nothing n s in
       let left = dividendOf n s d / 2 ^ n in
       zero-divisor-flags n s d b hn hd hb rep f h
       ∙ ap (λ (x : ℕ). szp 16 (sub n left x .result) (setCOA false (sub n left x .overflow) (sub n left x .auxCarry) f)) none
@@ -121,5 +117,4 @@ module _ (n d b : ℕ) (hn : 0 < n) (hd : d < 2 ^ (n + n)) (hb : b < 2 ^ n) (rep
   pub sign-range-compare : lastCompare n (divisorOf n true b) n (dividendOf n true d) ≡ shifted (divisorOf n true b) (dividendOf n true d)
   sign-range-compare =
       let some : 0 < divisorOf n true b = omega (arith, leb-false (divisorOf n true b) (dividendOf n true d / 2 ^ n) later) in
-      let half : divisorOf n true b * 2 ≤ 2 ^ n = omega (arith, magnitude-plain n b hb, plain-lt n b hn hb, top-twice n hn) in
-      last-round n (divisorOf n true b) (dividendOf n true d) n hn some half
+      last-round n (divisorOf n true b) (dividendOf n true d) n hn some (divisor-half n b hn hb)
