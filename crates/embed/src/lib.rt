@@ -1,14 +1,19 @@
-// What a program in another language calls: a request given as numbers, one line, and a run over many
-// lines. Nothing is required of a caller but that each pointer leads to as many bytes as it says.
+// What a program in another language calls: a request given as numbers, one line, a run over many lines,
+// and packed decimal strings added and subtracted. Nothing is required of a caller but that each pointer
+// leads to as many bytes as it says.
 ghost use mathlib.Core.Path.{_≡_};
 ghost use Prim.Native.Nat.{_/_};
 ghost use lib.ListN.{length};
 ghost use Rattle.line.specs.One.{statusIn, answered};
 ghost use Rattle.line.specs.Run.{done, runOf};
 ghost use Rattle.answer.specs.Asked.{statusOf, partsOf};
+ghost use Rattle.packed.specs.Sum.{plus, minus};
+ghost use Rattle.packed.specs.Told.{told, toldBy};
 use answer::ask;
 use line::one;
 use line::run;
+use packed::string;
+use packed::told;
 
 // The table of statuses from 3 on. The answer's flags, steps, R and S go in, in this order.
 #[no_mangle]
@@ -47,4 +52,33 @@ pub extern "C" fn hatchyarn_run(
     let ran = run::run(text, out, at_end);
     *used = ran.used;
     ran.lines
+}
+
+// The sum of two packed decimal strings goes into `out` and its carry into `carry_out`, as 0 or 1; returns 0.
+// A refusal, 20 to 23, writes nothing.
+#[no_mangle]
+pub extern "C" fn hatchyarn_packed_add(
+    x: &[u8],
+    y: &[u8],
+    carry: bool,
+    out: &mut [u8],
+    carry_out: &mut u8,
+) -> u8
+    ensures { λ r. ⌜ told r (now (out .exit)) (now («carry_out» .exit)) ≡ toldBy plus (now (x .entry)) (now (y .entry)) carry (now (out .entry)) (now («carry_out» .entry)) ⌝ }
+{
+    told::tell(string::add(x, y, carry, out), carry_out)
+}
+
+// The same for their difference, x less y, and its borrow.
+#[no_mangle]
+pub extern "C" fn hatchyarn_packed_subtract(
+    x: &[u8],
+    y: &[u8],
+    borrow: bool,
+    out: &mut [u8],
+    borrow_out: &mut u8,
+) -> u8
+    ensures { λ r. ⌜ told r (now (out .exit)) (now («borrow_out» .exit)) ≡ toldBy minus (now (x .entry)) (now (y .entry)) borrow (now (out .entry)) (now («borrow_out» .entry)) ⌝ }
+{
+    told::tell(string::subtract(x, y, borrow, out), borrow_out)
 }

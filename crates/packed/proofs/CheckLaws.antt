@@ -1,0 +1,71 @@
+-- Why DAA's and DAS's check against 9F, where A was set, never shows for decimal digits: what they are handed with A set and C clear is never
+-- 9A to 9F. Where C is set it decides by itself. So a check against 99 alone would do the same here. Assumes nothing.
+use mathlib.Core.Path.{_≡_, refl, sym, ap, _∙_}
+use mathlib.Core.Bool.{Bool, true, false, _||_, or-true}
+use Prim.Native.Nat.{ℕ, _+_, _-_, _%_, _≤_, _<_}
+use native.Mathlib.Omega.{arith}
+use lib.Dec.{leb, ltb}
+use borrow.Author.Tests.{leb-true, leb-false, ltb-true, ltb-false, lt-ltb, le-ltb}
+use Rattle.flags.specs.Numbers.{bit}
+use Rattle.flags.proofs.SignedLaws.{same-test}
+use Rattle.flags.proofs.WordLaws.{bit-le}
+use Rattle.alu.specs.Result.{ResultCoa}
+use Rattle.alu.specs.Sum.{adc, sbb}
+use Rattle.bcd.specs.Decimal.{highAdjusts}
+use Rattle.packed.specs.Digits.{isPacked}
+use Rattle.packed.proofs.DigitLaws.{digits-of}
+
+-- of what ADC or SBB leaves: with A set and C clear it is not 9A to 9F
+abbrev pub Never : ResultCoa → Type 0
+Never r = r .auxCarry ≡ true → r .carry ≡ false → 0x9A ≤ r .result → r .result ≤ 0x9F → ⊥
+
+under : (al : ℕ) → (0x9A ≤ al → al ≤ 0x9F → ⊥) → al ≤ 0x9F → al ≤ 0x99
+under al never h = by (leb 0x9A al) refl
+  where
+    by : (t : Bool) → leb 0x9A al ≡ t → al ≤ 0x99
+    by true e = absurd (never (leb-true 0x9A al e) h)
+    by false e = omega (arith, leb-false 0x9A al e)
+
+-- so the two checks come to the same
+pub check-99 : (r : ResultCoa) → Never r → highAdjusts (r .result) (r .auxCarry) (r .carry) ≡ (ltb 0x99 (r .result) || r .carry)
+check-99 r = by (r .result) (r .auxCarry) (r .carry)
+  where
+    by : (al : ℕ) (a c : Bool) → (a ≡ true → c ≡ false → 0x9A ≤ al → al ≤ 0x9F → ⊥) → highAdjusts al a c ≡ (ltb 0x99 al || c)
+    by al false c n = refl
+    by al true true n = or-true (ltb 0x9F al) ∙ sym (or-true (ltb 0x99 al))
+    by al true false n =
+        ap (λ (t : Bool). t || false)
+        (same-test (ltb 0x9F al) (ltb 0x99 al) (λ h. lt-ltb 0x99 al (omega (arith, ltb-true 0x9F al h))) (λ h. le-ltb 0x99 al (under al (n refl refl) (ltb-false 0x9F al h))))
+
+module _ (x y : ℕ) (c : Bool) (hx : isPacked x ≡ true) (hy : isPacked y ≡ true) where
+  -- after an addition A set means that the low digit is 0 to 3
+  pub added-low : adc 8 x y c .auxCarry ≡ true → adc 8 x y c .result % 16 ≤ 3
+  unfolding adc
+  added-low a =
+      let dx = digits-of x hx in
+      let dy = digits-of y hy in
+      let one = bit-le c in
+      let over = leb-true 16 (x % 16 + y % 16 + bit c) a in
+      omega arith
+
+  pub added-never : Never (adc 8 x y c)
+  added-never a b h l = omega (arith, added-low a)
+
+  -- after a subtraction A set and C clear mean that the upper digit is at most 8
+  pub subtracted-high : sbb 8 x y c .auxCarry ≡ true → sbb 8 x y c .carry ≡ false → sbb 8 x y c .result < 0x90
+  unfolding sbb
+  subtracted-high a b =
+      let dx = digits-of x hx in
+      let dy = digits-of y hy in
+      let one = bit-le c in
+      let lent = ltb-true (x % 16) (y % 16 + bit c) a in
+      let whole = ltb-false x (y + bit c) b in
+      omega arith
+
+  pub subtracted-never : Never (sbb 8 x y c)
+  subtracted-never a b h l = omega (arith, subtracted-high a b)
+
+-- 00 - 61 hands DAS 9F with A set, and C too
+pub c-decides : (sbb 8 0x00 0x61 false .result ≡ 0x9F) × (sbb 8 0x00 0x61 false .auxCarry ≡ true) × (sbb 8 0x00 0x61 false .carry ≡ true)
+unfolding sbb
+c-decides = (refl, refl, refl)

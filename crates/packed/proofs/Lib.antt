@@ -1,0 +1,9 @@
+pub mod DigitLaws
+pub mod PartLaws
+pub mod StringLaws
+pub mod CheckLaws
+pub mod TensLaws
+pub mod ByteLaws
+pub mod JudgeLaws
+pub mod HalvesLaws
+pub mod ToldLaws

@@ -1,0 +1,19 @@
+-- `packed::string::add` meets its contract, by what `judge` says. Assumes nothing.
+use mathlib.Core.Path.{_≡_, sym, _∙_}
+use borrow.Author.Needs.{needs}
+use Rattle.packed.specs.Sum.{plus}
+use Rattle.packed.proofs.JudgeLaws.{refuses}
+use Rattle.packed.proofs.string.add.Statement.{statement}
+use Rattle.packed.proofs.string.add.Tie as tie
+
+work-requires : tie.Need-work-requires
+work-requires c κs = let told = c .before in sym (told .before .before .judge .ensures) ∙ told .enum-told .given .1
+
+returns-2 : tie.Need-returns-2
+returns-2 c =
+    let judged = c .before .before .before in
+    let entry = judged .before .before .before .before in
+    refuses plus (entry .args .x .now) (entry .args .y .now) (entry .args .carry) (entry .args .out .now) (sym (judged .judge .ensures) ∙ c .before .why .given .1)
+
+pub add-spec : {M : Type 1} → statement M
+add-spec = tie.close (tie.spec (λ c κs. search needs) (λ c. search needs) work-requires (λ c. search needs) (λ c. search needs) (λ c. search needs) returns-2)

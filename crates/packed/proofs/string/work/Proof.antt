@@ -1,0 +1,28 @@
+-- `packed::string::work` meets its contract: what is chosen of the bytes made for either carry is the string. Assumes nothing.
+use mathlib.Core.Path.{_≡_, refl}
+use borrow.Author.Needs.{needs}
+use Rattle.packed.proofs.JudgeLaws.{admitted}
+use Rattle.packed.proofs.HalvesLaws.{zeros-within, work-done}
+use Rattle.packed.proofs.string.work.Statement.{statement}
+use Rattle.packed.proofs.string.work.Tie as tie
+
+make-both-requires : tie.Need-make-both-requires
+make-both-requires c κs = (admitted _ _ _ (c .before .before .before .before .before .pre) .0, (refl, refl, zeros-within 64 32))
+
+choose-requires : tie.Need-choose-requires
+choose-requires c κs =
+    let both = c .before .before .before .before .before in
+    let entry = both .before .before .before .before .before .before in
+    let known = admitted _ _ _ (entry .pre) in
+    let all = both .make-both .ensures in
+    ((all .places .0, all .places .1, all .within), (known .0 .few, known .1))
+
+returns : tie.Need-returns
+returns c =
+    let choice = c .before .before in
+    let both = choice .before .before .before .before .before .before in
+    let entry = both .before .before .before .before .before .before in
+    work-done (entry .args .subtract) (entry .args .x .now) (entry .args .y .now) (admitted _ _ _ (entry .pre) .0) (both .make-both .ensures) (entry .args .carry) (entry .args .out .now) (entry .pre) (choice .choose .ensures)
+
+pub work-spec : {M : Type 1} → statement M
+work-spec = tie.close (tie.spec (λ c. search needs) (λ c. search needs) make-both-requires (λ c. search needs) (λ c. search needs) choose-requires (λ c. search needs) returns)

@@ -1,0 +1,7 @@
+pub mod Digits
+pub mod Sum
+pub mod Judge
+pub mod Packed
+pub mod Told
+pub mod Byte
+pub mod Halves
