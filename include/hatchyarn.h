@@ -164,6 +164,47 @@ uint8_t hatchyarn_line(const uint8_t *line, size_t length, uint8_t *out, size_t 
 size_t hatchyarn_run(const uint8_t *text, size_t length, uint8_t *out, size_t room, bool at_end,
                      size_t *used);
 
+/*
+ * How a packed addition or subtraction was answered. 20 to 23 are tested in this order; the first that
+ * applies is given.
+ */
+enum hatchyarn_packed_status {
+    HATCHYARN_PACKED_DONE = 0,            /* answered as below */
+    HATCHYARN_PACKED_LENGTHS_DIFFER = 20, /* the operands' lengths differ */
+    HATCHYARN_PACKED_BAD_LENGTH = 21,     /* the operands are not 1 to 32 bytes long */
+    HATCHYARN_PACKED_BAD_DIGIT = 22,      /* a digit of an operand is over 9 */
+    HATCHYARN_PACKED_NO_ROOM = 23         /* the buffer for the result is shorter than the operands */
+};
+
+/* The bytes of the longest operand, which has 64 digits. */
+#define HATCHYARN_PACKED_BYTES 32
+
+/*
+ * Add and subtract numbers of packed decimal digits: two a byte, the upper digit in the byte's upper half,
+ * and the lowest byte first. So 738123 is the bytes 0x23, 0x81, 0x73. Both operands have one length, L, of
+ * 1 to 32 bytes; a number that is shorter gets bytes of 0 at its end.
+ *
+ *   hatchyarn_packed_add        the result is (x + y + carry) mod 10^(2L); *carry_out is 1 where the sum
+ *                               is 10^(2L) or more, and else 0
+ *   hatchyarn_packed_subtract   the result is (x - y - borrow) mod 10^(2L); *borrow_out is 1 where x is
+ *                               less than y + borrow, and else 0
+ *
+ * Each returns its status. After HATCHYARN_PACKED_DONE the first L bytes of `out` hold the result, and the
+ * rest of its `room` bytes are as they were. Every other status is a refusal: nothing is written,
+ * *carry_out and *borrow_out included.
+ *
+ * carry_out and borrow_out must always lead to a byte. That byte, `out` and the operands must be apart, so
+ * that no result goes into the place of an operand; but x and y are only read, and may overlap or be the same.
+ *
+ * Numbers of more than 32 bytes are added or subtracted in pieces, the lowest first: each piece is given
+ * the carry or borrow out of the one before it, and that of the last is that of the whole. Where a piece
+ * is refused, those before it have been written.
+ */
+uint8_t hatchyarn_packed_add(const uint8_t *x, size_t x_length, const uint8_t *y, size_t y_length,
+                             bool carry, uint8_t *out, size_t room, uint8_t *carry_out);
+uint8_t hatchyarn_packed_subtract(const uint8_t *x, size_t x_length, const uint8_t *y, size_t y_length,
+                                  bool borrow, uint8_t *out, size_t room, uint8_t *borrow_out);
+
 #ifdef __cplusplus
 }
 #endif

@@ -136,6 +136,81 @@ static void closed(void)
                "hatchyarn_divide_refused is not true of exactly 6, 8 and 9");
 }
 
+/* A loan from day 738123, of 28 days, to day 738151. */
+static const uint8_t day[] = {0x23, 0x81, 0x73}, days[] = {0x28, 0x00, 0x00}, due[] = {0x51, 0x81, 0x73};
+
+static void packed_sums(void)
+{
+    uint8_t nines[HATCHYARN_PACKED_BYTES], zeros[HATCHYARN_PACKED_BYTES] = {0};
+    uint8_t out[HATCHYARN_PACKED_BYTES + 1], carry = '?';
+
+    memset(nines, 0x99, sizeof nines);
+    memset(out, '?', sizeof out);
+    expect(hatchyarn_packed_add(day, 3, days, 3, false, out, sizeof out, &carry) == HATCHYARN_PACKED_DONE
+               && memcmp(out, due, 3) == 0 && out[3] == '?' && carry == 0, "738123 + 28");
+    memset(out, '?', sizeof out);
+    expect(hatchyarn_packed_subtract(due, 3, day, 3, false, out, 3, &carry) == HATCHYARN_PACKED_DONE
+               && memcmp(out, days, 3) == 0 && out[3] == '?' && carry == 0, "738151 - 738123");
+    expect(hatchyarn_packed_add(nines, 32, nines, 32, true, out, 32, &carry) == HATCHYARN_PACKED_DONE
+               && memcmp(out, nines, 32) == 0 && out[32] == '?' && carry == 1,
+           "a number and itself, with a carry in and out");
+    expect(hatchyarn_packed_subtract(zeros, 32, zeros, 32, true, out, sizeof out, &carry) == HATCHYARN_PACKED_DONE
+               && memcmp(out, nines, 32) == 0 && out[32] == '?' && carry == 1, "0 - 0, with a borrow in and out");
+}
+
+/* 1234 + 8766 and 10000 - 8766, at once and in pieces of a byte, with the carry or borrow of each given to the next. */
+static void packed_pieces(void)
+{
+    const uint8_t x[] = {0x34, 0x12, 0x00}, y[] = {0x66, 0x87, 0x00}, sum[] = {0x00, 0x00, 0x01};
+    uint8_t out[3], carry = '?';
+
+    expect(hatchyarn_packed_add(x, 3, y, 3, false, out, 3, &carry) == HATCHYARN_PACKED_DONE
+               && memcmp(out, sum, 3) == 0 && carry == 0, "1234 + 8766");
+    expect(hatchyarn_packed_subtract(sum, 3, y, 3, false, out, 3, &carry) == HATCHYARN_PACKED_DONE
+               && memcmp(out, x, 3) == 0 && carry == 0, "10000 - 8766");
+    for (size_t i = 0; i < 3; i++)
+        expect(hatchyarn_packed_add(x + i, 1, y + i, 1, carry, out + i, 1, &carry) == HATCHYARN_PACKED_DONE
+                   && carry == (i < 2), "a piece of a sum");
+    expect(memcmp(out, sum, 3) == 0, "a sum in pieces");
+    for (size_t i = 0; i < 3; i++)
+        expect(hatchyarn_packed_subtract(sum + i, 1, y + i, 1, carry, out + i, 1, &carry) == HATCHYARN_PACKED_DONE
+                   && carry == (i < 2), "a piece of a difference");
+    expect(memcmp(out, x, 3) == 0, "a difference in pieces");
+}
+
+/* Both functions refuse with this status, and write nothing. */
+static void refuses(const uint8_t *x, size_t x_length, const uint8_t *y, size_t y_length, size_t room, uint8_t status,
+                    const char *what)
+{
+    uint8_t out[HATCHYARN_PACKED_BYTES + 1], untouched[sizeof out], carry = '?', borrow = '?';
+
+    memset(out, '?', sizeof out);
+    memset(untouched, '?', sizeof untouched);
+    expect(hatchyarn_packed_add(x, x_length, y, y_length, true, out, room, &carry) == status, what);
+    expect(hatchyarn_packed_subtract(x, x_length, y, y_length, true, out, room, &borrow) == status, what);
+    expect(memcmp(out, untouched, sizeof out) == 0 && carry == '?' && borrow == '?', what);
+}
+
+/* Each refusal alone, and then with all later ones beside it. */
+static void packed_refusals(void)
+{
+    const uint8_t upper[] = {0x00, 0xA0}, lower[] = {0x00, 0x0A};
+    uint8_t zeros[HATCHYARN_PACKED_BYTES + 1] = {0}, hexadecimal[HATCHYARN_PACKED_BYTES + 1] = {0xFF}, carry = '?';
+
+    refuses(day, 3, days, 2, 3, HATCHYARN_PACKED_LENGTHS_DIFFER, "three bytes and two");
+    refuses(NULL, 0, NULL, 0, 33, HATCHYARN_PACKED_BAD_LENGTH, "no byte at no place");
+    refuses(zeros, 33, zeros, 33, 33, HATCHYARN_PACKED_BAD_LENGTH, "33 bytes");
+    refuses(upper, 2, days, 2, 2, HATCHYARN_PACKED_BAD_DIGIT, "an upper digit over 9 in x");
+    refuses(days, 2, lower, 2, 2, HATCHYARN_PACKED_BAD_DIGIT, "a lower digit over 9 in y");
+    refuses(day, 3, days, 3, 2, HATCHYARN_PACKED_NO_ROOM, "three bytes and room for two");
+    expect(hatchyarn_packed_add(day, 3, days, 3, false, NULL, 0, &carry) == HATCHYARN_PACKED_NO_ROOM
+               && carry == '?', "a sum and room at no place");
+
+    refuses(hexadecimal, 33, days, 0, 0, HATCHYARN_PACKED_LENGTHS_DIFFER, "33 bytes and none, a digit, no room");
+    refuses(hexadecimal, 33, zeros, 33, 0, HATCHYARN_PACKED_BAD_LENGTH, "33 bytes, a digit, no room");
+    refuses(hexadecimal, 32, zeros, 32, 31, HATCHYARN_PACKED_BAD_DIGIT, "a digit, no room");
+}
+
 int main(void)
 {
     asks();
@@ -143,6 +218,9 @@ int main(void)
     runs();
     refusals();
     closed();
+    packed_sums();
+    packed_pieces();
+    packed_refusals();
     if (!failed)
         puts("calls: ok");
     return failed;

@@ -33,11 +33,15 @@
 //!
 //! Requests that come as text are answered line by line ([`answer_line`]) or as a whole
 //! ([`answer_all`]). Requests that come as numbers that nobody has checked go to [`raw::ask`].
+//!
+//! Numbers of packed decimal digits, as loan cards hold them, are added and subtracted by
+//! [`packed::add`] and [`packed::subtract`].
 
 mod answer;
 mod flags;
 mod lines;
 mod operation;
+pub mod packed;
 pub mod raw;
 
 pub use answer::{Answer, DivideRefusal, Refusal};

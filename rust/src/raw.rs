@@ -1,8 +1,9 @@
-//! The three functions as the static library has them.
+//! The five functions as the static library has them.
 //!
 //! They are safe to call with anything: nothing is required of a caller, and every request gets an
 //! answer. Use them for requests that come from elsewhere as numbers or as text; a program that
-//! writes its own requests is better served by [`Operation`](crate::Operation).
+//! writes its own requests is better served by [`Operation`](crate::Operation), and one that adds
+//! packed decimal numbers by [`packed`](crate::packed).
 
 /// What [`ask`] answers.
 #[derive(Clone, Copy, Debug, PartialEq, Eq, Hash)]
@@ -38,6 +39,26 @@ mod linked {
             at_end: bool,
             used: *mut usize,
         ) -> usize;
+        pub fn hatchyarn_packed_add(
+            x: *const u8,
+            x_length: usize,
+            y: *const u8,
+            y_length: usize,
+            carry: bool,
+            out: *mut u8,
+            room: usize,
+            carry_out: *mut u8,
+        ) -> u8;
+        pub fn hatchyarn_packed_subtract(
+            x: *const u8,
+            x_length: usize,
+            y: *const u8,
+            y_length: usize,
+            borrow: bool,
+            out: *mut u8,
+            room: usize,
+            borrow_out: *mut u8,
+        ) -> u8;
     }
 }
 
@@ -83,4 +104,47 @@ pub fn run(text: &[u8], out: &mut [u8], at_end: bool) -> Ran {
         )
     };
     Ran { lines, used }
+}
+
+/// Adds packed numbers of one length, and the carry. The sum's bytes go to the front of `out`, and the
+/// carry out of it, 0 or 1, to `carry_out`. The status is 0; where it is one of 20 to 23, those of
+/// [`packed::Refusal`](crate::packed::Refusal), nothing is written.
+pub fn packed_add(x: &[u8], y: &[u8], carry: bool, out: &mut [u8], carry_out: &mut u8) -> u8 {
+    // SAFETY: each pointer goes with the length of its slice, and all that is written is apart.
+    unsafe {
+        linked::hatchyarn_packed_add(
+            x.as_ptr(),
+            x.len(),
+            y.as_ptr(),
+            y.len(),
+            carry,
+            out.as_mut_ptr(),
+            out.len(),
+            carry_out,
+        )
+    }
+}
+
+/// Subtracts `y` and the borrow from `x`, packed numbers of one length. What is written, and where, is as
+/// of [`packed_add`], with the borrow out of the difference in place of the carry.
+pub fn packed_subtract(
+    x: &[u8],
+    y: &[u8],
+    borrow: bool,
+    out: &mut [u8],
+    borrow_out: &mut u8,
+) -> u8 {
+    // SAFETY: each pointer goes with the length of its slice, and all that is written is apart.
+    unsafe {
+        linked::hatchyarn_packed_subtract(
+            x.as_ptr(),
+            x.len(),
+            y.as_ptr(),
+            y.len(),
+            borrow,
+            out.as_mut_ptr(),
+            out.len(),
+            borrow_out,
+        )
+    }
 }
