@@ -10,6 +10,7 @@ pub mod careful;
 pub mod divides;
 pub mod filter;
 pub mod form;
+pub mod lent;
 pub mod lines;
 pub mod plan;
 pub mod refused_flags;

@@ -43,14 +43,18 @@ pub fn refused(status: u8) -> Numbers {
 
 /// The names of the fields in which two answers differ.
 pub fn fields_apart(ours: &Numbers, theirs: &Numbers) -> String {
-    let fields = [
+    names_apart(&[
         ("status", ours.status != theirs.status),
         ("flags", ours.flags != theirs.flags),
         ("steps", ours.steps != theirs.steps),
         ("R", ours.r != theirs.r),
         ("S", ours.s != theirs.s),
-    ];
-    let apart: Vec<&str> = fields.iter().filter(|f| f.1).map(|f| f.0).collect();
+    ])
+}
+
+/// The names of those parts that differ.
+pub fn names_apart(parts: &[(&str, bool)]) -> String {
+    let apart: Vec<&str> = parts.iter().filter(|p| p.1).map(|p| p.0).collect();
     apart.join(", ")
 }
 

@@ -3,7 +3,7 @@
 use crate::asked::Asked;
 use crate::divides::Divides;
 use crate::refused_flags::Ruled;
-use crate::sides::{self, digits, fields_apart, Numbers, Side};
+use crate::sides::{self, digits, fields_apart, names_apart, Numbers, Side};
 
 /// As many differences are shown as a reader can use; all are counted.
 pub const MOST_SHOWN: usize = 20;
@@ -86,6 +86,15 @@ impl Tally {
                 fields_apart(&one.1, &other.1)
             )
         });
+    }
+
+    /// Counts a call, and a difference if any part of what came of it differs from what should. The
+    /// call is told only then.
+    pub fn hold_call(&mut self, parts: &[(&str, bool)], told: impl FnOnce() -> String) {
+        self.compared += 1;
+        if parts.iter().any(|part| part.1) {
+            self.fail(|| format!("{}: {} differ", told(), names_apart(parts)));
+        }
     }
 
     /// Counts a difference.

@@ -2,7 +2,8 @@
 
 use comparison::asked::Asked;
 use comparison::form::Form;
-use comparison::lines::held::{self, Case, Lent};
+use comparison::lent::Lent;
+use comparison::lines::held::{self, Case};
 use comparison::lines::model::Model;
 use comparison::plan;
 use comparison::refused_flags::{Divide, Ruled};

@@ -2,38 +2,9 @@
 //! that it must leave.
 
 use super::model::{self, Model, ANSWER};
+use crate::lent::Lent;
 use crate::tally::Tally;
 use hatchyarn::raw::Ran;
-use std::ops::Range;
-
-/// Bytes on either side of what is lent, which nobody may write.
-const GUARD: usize = 64;
-
-/// A room inside a larger buffer. Every byte starts as a pattern that depends on its place.
-pub struct Lent {
-    pub whole: Vec<u8>,
-    pub room: Range<usize>,
-}
-
-impl Lent {
-    pub fn new(room: usize) -> Lent {
-        let pattern = |place: usize| ((place * 167 + 13) ^ (place >> 8)) as u8;
-        Lent {
-            whole: (0..room + 2 * GUARD).map(pattern).collect(),
-            room: GUARD..GUARD + room,
-        }
-    }
-
-    pub fn bytes(&mut self) -> &mut [u8] {
-        &mut self.whole[self.room.clone()]
-    }
-
-    /// The buffer as it has to be when these answers are at the front of the room.
-    fn with(mut self, answers: &[u8]) -> Vec<u8> {
-        self.bytes()[..answers.len()].copy_from_slice(answers);
-        self.whole
-    }
-}
 
 /// A run to be held: a text with its model, and how it is run.
 #[derive(Clone, Copy, Debug)]
@@ -51,18 +22,15 @@ pub fn run(tally: &mut Tally, case: Case, act: impl FnOnce(Case, &mut Lent) -> R
     let ran = act(case, &mut lent);
     let (lines, used) = case.model.within(room);
     let expected = Lent::new(room).with(&case.model.answers[..lines * ANSWER]);
-    tally.compared += 1;
-    let wrong = wrong_in(&[
+    let parts = [
         ("lines", ran.lines != lines),
         ("used", ran.used != used),
-        ("bytes", lent.whole != expected),
-    ]);
-    if let Some(wrong) = wrong {
+        ("bytes", lent != expected),
+    ];
+    tally.hold_call(&parts, || {
         let text = shown(case.text);
-        tally.fail(|| {
-            format!("run over {text} in a room of {room}, at_end {at_end}: {wrong} differ")
-        });
-    }
+        format!("run over {text} in a room of {room}, at_end {at_end}")
+    });
 }
 
 /// Holds the answer to one line.
@@ -72,24 +40,13 @@ pub fn line(tally: &mut Tally, line: &[u8], room: usize, act: impl FnOnce(&[u8],
     let answer = model::answer(line);
     let written = if room < ANSWER { &[] } else { &answer[..] };
     let expected = Lent::new(room).with(written);
-    tally.compared += 1;
-    let wrong = wrong_in(&[
+    let parts = [
         ("status", status != model::status(line, room)),
-        ("bytes", lent.whole != expected),
-    ]);
-    if let Some(wrong) = wrong {
-        let line = shown(line);
-        tally.fail(|| format!("line {line} in a room of {room}: {wrong} differ"));
-    }
-}
-
-fn wrong_in(parts: &[(&str, bool)]) -> Option<String> {
-    let wrong: Vec<&str> = parts
-        .iter()
-        .filter(|part| part.1)
-        .map(|part| part.0)
-        .collect();
-    (!wrong.is_empty()).then(|| wrong.join(", "))
+        ("bytes", lent != expected),
+    ];
+    tally.hold_call(&parts, || {
+        format!("line {} in a room of {room}", shown(line))
+    });
 }
 
 /// As much of a text as a reader can use.

@@ -1,9 +1,10 @@
 //! The sections over text.
 
-use super::held::{self, shown, Case, Lent};
+use super::held::{self, shown, Case};
 use super::model::{Model, ANSWER};
 use super::texts::Texts;
 use crate::form::Form;
+use crate::lent::Lent;
 use crate::section::Section;
 use crate::tally::Tally;
 use hatchyarn::raw::{self, Ran};
