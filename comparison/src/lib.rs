@@ -2,7 +2,8 @@
 //!
 //! Both are called as functions, so that nothing between them can hide a difference. The port is the
 //! static library that `./build` makes from proved code; MartyPC's Rust is the crate `oracle`. This
-//! is a crate of its own, so that the oracle can be built where the port is not.
+//! is a crate of its own, so that the oracle can be built where the port is not. What MartyPC does not
+//! have is held to a model or a reference.
 
 pub mod asked;
 pub mod bench;
@@ -12,6 +13,7 @@ pub mod filter;
 pub mod form;
 pub mod lent;
 pub mod lines;
+pub mod packed;
 pub mod plan;
 pub mod refused_flags;
 pub mod section;

@@ -2,6 +2,7 @@
 
 use crate::form::Form;
 use crate::lines::sections as lines;
+use crate::packed::sections as packed;
 use crate::section::Section;
 use crate::{bytes, judged, refused, words};
 
@@ -22,5 +23,11 @@ pub fn sections(form: Form) -> Vec<Section> {
         lines::rooms(form),
         lines::runs(form),
         lines::pieces(form),
+        packed::bytes(),
+        packed::lengths(form),
+        packed::runs(form),
+        packed::over_nine(form),
+        packed::drawn(form),
+        packed::pieces(form),
     ]
 }

@@ -13,7 +13,7 @@ type Part = Box<dyn Fn(u64, &mut Tally) + Sync>;
 
 pub struct Section {
     pub name: &'static str,
-    /// What is counted: requests, or calls over text.
+    /// What is counted: requests, or calls over text or packed digits.
     pub unit: &'static str,
     parts: u64,
     part: Part,

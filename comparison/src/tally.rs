@@ -2,6 +2,7 @@
 
 use crate::asked::Asked;
 use crate::divides::Divides;
+use crate::packed::loan;
 use crate::refused_flags::Ruled;
 use crate::sides::{self, digits, fields_apart, names_apart, Numbers, Side};
 
@@ -14,6 +15,8 @@ type Named = (&'static str, Numbers);
 #[derive(Clone, Debug)]
 pub struct Tally {
     ours: Side,
+    /// In place of the port's functions on packed digits.
+    pub packed: loan::Side,
     pub compared: u64,
     pub divides: Divides,
     /// How many answers differ. One is enough to fail.
@@ -25,6 +28,7 @@ impl Tally {
     pub fn new(ours: Side) -> Tally {
         Tally {
             ours,
+            packed: loan::ours,
             compared: 0,
             divides: Divides::default(),
             differing: 0,
@@ -32,9 +36,14 @@ impl Tally {
         }
     }
 
-    /// One that has seen nothing, with the same side in place of the port.
+    /// The same, with another side for packed digits than the port.
+    pub fn with_packed(self, packed: loan::Side) -> Tally {
+        Tally { packed, ..self }
+    }
+
+    /// One that has seen nothing, with the same sides in place of the port.
     pub fn fresh(&self) -> Tally {
-        Tally::new(self.ours)
+        Tally::new(self.ours).with_packed(self.packed)
     }
 
     /// Asks both sides, and holds the port to MartyPC.

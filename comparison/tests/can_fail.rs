@@ -5,6 +5,9 @@ use comparison::form::Form;
 use comparison::lent::Lent;
 use comparison::lines::held::{self, Case};
 use comparison::lines::model::Model;
+use comparison::packed::call::{self, Call};
+use comparison::packed::held::hold;
+use comparison::packed::loan::{self, Loan};
 use comparison::plan;
 use comparison::refused_flags::{Divide, Ruled};
 use comparison::sides::{fields_apart, ours, theirs, Numbers, Side};
@@ -39,15 +42,15 @@ fn but_for_one(asked: Asked, wrong: impl Fn(&mut Numbers)) -> Numbers {
     given
 }
 
-/// Runs the section of this name with a side in place of the port.
-fn run(name: &str, side: Side) -> Tally {
+/// Runs the section of this name with the sides of a tally in place of the port.
+fn run(name: &str, tally: Tally) -> Tally {
     let mut sections = plan::sections(QUICK).into_iter();
     let section = sections.find(|section| section.name == name);
-    section.expect(name).run(1, &Tally::new(side))
+    section.expect(name).run(1, &tally)
 }
 
 fn at_edges(side: Side) -> Tally {
-    run("both widths, every combination of edges", side)
+    run("both widths, every combination of edges", Tally::new(side))
 }
 
 #[test]
@@ -171,7 +174,7 @@ const BY_RULE: [&str; 2] = [
 fn wrong_flags_of_a_refusal_are_found_by_the_rule() {
     for (name, side, counts) in wrong::flags::RULES {
         for (section, count) in BY_RULE.into_iter().zip(counts) {
-            let tally = run(section, side);
+            let tally = run(section, Tally::new(side));
             assert_eq!(tally.differing > 0, count > 0, "{name}, {section}");
             let is_held = |shown: &String| {
                 shown.contains(" the rule ") && shown.ends_with(" differ in flags")
@@ -180,7 +183,7 @@ fn wrong_flags_of_a_refusal_are_found_by_the_rule() {
         }
     }
     for section in BY_RULE {
-        assert_eq!(run(section, ours).differing, 0, "{section}");
+        assert_eq!(run(section, Tally::new(ours)).differing, 0, "{section}");
     }
 }
 
@@ -292,4 +295,62 @@ fn a_wrong_line_is_found() {
         1,
         "after it"
     );
+}
+
+fn with_packed(side: loan::Side) -> Tally {
+    Tally::new(ours).with_packed(side)
+}
+
+#[test]
+fn wrong_packed_digits_are_found() {
+    for (name, side, sections) in wrong::packed::RULES {
+        for section in sections {
+            let tally = run(section, with_packed(side));
+            assert!(tally.differing > 0, "{name}, {section}");
+        }
+    }
+    for section in wrong::packed::SECTIONS {
+        assert_eq!(run(section, Tally::new(ours)).differing, 0, "{section}");
+    }
+}
+
+/// The port, but that it writes the byte behind one of those that it is lent.
+fn behind(call: Call, loan: &mut Loan, which: fn(&mut Loan) -> &mut Lent) -> u8 {
+    let status = loan::ours(call, loan);
+    let lent = which(loan);
+    lent.whole[lent.room.end] ^= 1;
+    status
+}
+
+/// Each part of what comes of a call, and a port that has it wrong.
+const WRONG_PARTS: [(&str, loan::Side); 5] = [
+    ("status", |call, loan| loan::ours(call, loan) ^ 1),
+    ("x", |call, loan| behind(call, loan, |loan| &mut loan.x)),
+    ("y", |call, loan| behind(call, loan, |loan| &mut loan.y)),
+    ("result", |call, loan| {
+        behind(call, loan, |loan| &mut loan.out)
+    }),
+    ("carry", |call, loan| {
+        behind(call, loan, |loan| &mut loan.carry)
+    }),
+];
+
+/// A call that is refused, and one that is not.
+#[test]
+fn a_wrong_part_of_a_packed_call_is_found_and_named() {
+    for room in [1, 2] {
+        let call = Call::new(call::Operation::Add, &[0x99, 0x09], &[0x01, 0x00], false);
+        let call = call.in_room(room);
+        for (part, side) in WRONG_PARTS {
+            let mut tally = with_packed(side);
+            hold(&mut tally, call);
+            let [shown] = &tally.shown[..] else {
+                panic!("{:?}", tally.shown)
+            };
+            assert!(shown.ends_with(&format!(": {part} differ")), "{shown}");
+        }
+        let mut tally = Tally::new(ours);
+        hold(&mut tally, call);
+        assert_eq!((tally.compared, tally.differing), (1, 0));
+    }
 }

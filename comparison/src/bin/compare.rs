@@ -79,7 +79,7 @@ fn compare(form: Form) -> ExitCode {
     }
     let [requests, calls] = units.map(|unit| grouped(unit.1));
     let seconds = start.elapsed().as_secs_f64();
-    println!("compare: {requests} requests and {calls} calls over text in {seconds:.1} s");
+    println!("compare: {requests} requests and {calls} calls in {seconds:.1} s");
     conclude(form, &sum)
 }
 

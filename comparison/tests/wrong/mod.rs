@@ -1,4 +1,5 @@
-//! Wrong ports: each differs from the port by one rule of refused divides.
+//! Wrong ports: each differs from the port by one rule, of refused divides or of packed digits.
 
 pub mod flags;
+pub mod packed;
 pub mod statuses;
