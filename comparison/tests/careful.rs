@@ -1,15 +1,23 @@
-//! The Rust that the port is timed beside answers as the oracle does, or its time would mean nothing.
+//! The Rust that the port is timed beside answers as the oracle and the references do, or its time would
+//! mean nothing.
 
 use comparison::asked::Asked;
 use comparison::form::Form;
 use comparison::lines::model::Model;
-use comparison::sides::theirs;
-use comparison::{careful, filter};
+use comparison::packed::careful as packed;
+use comparison::sides::{ours, theirs};
+use comparison::tally::Tally;
+use comparison::{careful, filter, plan};
 use oracle::draw::Draw;
 use oracle::request::Operation;
 use oracle::{edges, malformed};
 use std::convert::Infallible;
 use std::io::Read;
+
+const QUICK: Form = Form {
+    full: false,
+    seed: 1,
+};
 
 fn hold(asked: Asked) {
     let given = careful::ask(asked.op, asked.mode, asked.flags, asked.x, asked.y);
@@ -64,11 +72,7 @@ fn filtered(input: impl Read) -> Vec<u8> {
 fn filter_answers_as_the_model() {
     let mut text = Vec::new();
     let operations: Vec<Operation> = Operation::all().collect();
-    let mut draw = Form {
-        full: false,
-        seed: 1,
-    }
-    .draw(0, 0);
+    let mut draw = QUICK.draw(0, 0);
     for line in malformed::lines().into_iter().cycle().take(5_000) {
         text.extend(draw.request(&operations).to_line());
         text.extend(line);
@@ -82,4 +86,19 @@ fn filter_answers_as_the_model() {
         assert!(filtered(Slow(&text, Draw::new(1))) == answers);
     }
     assert_eq!(filtered(&b""[..]), b"");
+}
+
+/// It stands in place of the port in all sections of packed digits.
+#[test]
+fn packed_digits_are_as_in_the_reference() {
+    let sections = plan::sections(QUICK).into_iter();
+    let tally =
+        Tally::new(ours).with_packed(|call, loan| loan.call(call, [packed::add, packed::subtract]));
+    let of_packed = sections.filter(|section| section.name.starts_with("packed, "));
+    let held: Vec<Tally> = of_packed.map(|section| section.run(1, &tally)).collect();
+    assert_eq!(held.len(), 6);
+    for held in held {
+        assert!(held.compared > 10_000);
+        assert_eq!(held.differing, 0, "{:?}", held.shown);
+    }
 }

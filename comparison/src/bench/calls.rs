@@ -22,7 +22,7 @@ fn row(drawn: Drawn) -> Row {
         let (name, bits) = drawn.named();
         return Err(format!("{name} {bits}: the two sides answer differently"));
     }
-    Ok(table::beside(&drawn, || _ = ours(), || _ = theirs()))
+    Ok(table::beside(drawn.named(), || _ = ours(), || _ = theirs()))
 }
 
 /// Asks all and folds all that is answered, so that nothing can be left out.

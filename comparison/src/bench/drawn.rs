@@ -2,6 +2,7 @@
 
 use super::counts::Counts;
 use super::refused::RefusedDivide;
+use super::table::Named;
 use crate::asked::Asked;
 use oracle::draw::Draw;
 use oracle::request::{Alu, Mode, Operation, Request, Width};
@@ -37,7 +38,7 @@ impl Drawn {
     }
 
     /// The name and the bits.
-    pub fn named(&self) -> (String, u32) {
+    pub fn named(&self) -> Named {
         let (name, bits) = named(self.operation);
         match self.why {
             Some(why) => (format!("{name}, {why}"), bits),
@@ -54,7 +55,7 @@ fn inputs(operation: Operation, request: impl Fn(&mut Draw) -> Request) -> Vec<A
     (0..INPUTS).map(one).collect()
 }
 
-fn named(operation: Operation) -> (String, u32) {
+fn named(operation: Operation) -> Named {
     let of_mode = |name: &str, mode: Mode| {
         let sign = if mode.signed { "I" } else { "" };
         let rep = if mode.rep { "REP " } else { "" };

@@ -1,4 +1,5 @@
-//! The port and MartyPC's Rust, timed on the same job. Times are told, never judged.
+//! The port and MartyPC's Rust, or what else does the same, timed on the same job. Times are told, never
+//! judged.
 
 pub mod calls;
 mod counts;
@@ -7,6 +8,7 @@ mod files;
 #[cfg(feature = "functions")]
 pub mod functions;
 mod memory;
+pub mod packed;
 pub mod programs;
 mod refused;
 mod rounds;

@@ -16,27 +16,39 @@ const CALLS: usize = INPUTS * PASSES;
 /// A line of a table, or where the two sides differ.
 pub type Row = Result<String, String>;
 
+/// What a row is of: the operation, and its size in bits or in bytes.
+pub type Named = (String, u32);
+
+/// The columns of the operations that MartyPC has: their size, and who is timed beside the port.
+const BESIDE_MARTYPC: [&str; 2] = ["bits", "MartyPC's Rust"];
+
 /// Prints the two tables of both sides beside each other: all operations, then the shifts and
 /// rotates again with longer counts.
 pub fn print_beside(row: impl Fn(Drawn) -> Row) -> Result<(), String> {
     let inputs = format!("counts of shifts {USUAL}, divides mostly accepted");
     let all = Operation::all().map(|operation| Drawn::with_counts(operation, USUAL));
-    print_sides(&inputs, all.map(&row))?;
+    print_sides(&inputs, BESIDE_MARTYPC, all.map(&row))?;
     println!();
     let inputs = format!("counts of shifts {FULL}");
     let shifts = Operation::all().filter(has_count);
     let shifts = shifts.map(|operation| Drawn::with_counts(operation, FULL));
-    print_sides(&inputs, shifts.map(&row))
+    print_sides(&inputs, BESIDE_MARTYPC, shifts.map(&row))
 }
 
 /// Prints the table of refused divides, both sides beside each other.
 pub fn print_refused(row: impl Fn(Drawn) -> Row) -> Result<(), String> {
     let divides = RefusedDivide::all().map(Drawn::refused);
-    print_sides("divides all refused for the reason named", divides.map(row))
+    let inputs = "divides all refused for the reason named";
+    print_sides(inputs, BESIDE_MARTYPC, divides.map(row))
 }
 
-fn print_sides(inputs: &str, rows: impl Iterator<Item = Row>) -> Result<(), String> {
-    let columns = ["Hatchyarn", "MartyPC's Rust", "ratio"].map(String::from);
+/// Prints a table of both sides beside each other.
+pub fn print_sides(
+    inputs: &str,
+    [size, other]: [&str; 2],
+    rows: impl Iterator<Item = Row>,
+) -> Result<(), String> {
+    let columns = [size, "Hatchyarn", other, "ratio"].map(String::from);
     print(inputs, "the two in turn", &columns, rows)
 }
 
@@ -50,8 +62,8 @@ pub fn print(
     println!(
         "{INPUTS} drawn inputs for each row, {inputs}; {ROUNDS} rounds of {CALLS} calls, {turns}; \
          nanoseconds a call, median (lowest to highest).\n\n\
-         | operation | bits | {} |\n\
-         |---|---{}|",
+         | operation | {} |\n\
+         |---{}|",
         columns.join(" | "),
         "|---".repeat(columns.len())
     );
@@ -63,15 +75,14 @@ pub fn print(
 
 /// Measures both sides on what is drawn.
 #[inline(always)]
-pub fn beside(drawn: &Drawn, ours: impl Fn(), theirs: impl Fn()) -> String {
+pub fn beside(named: Named, ours: impl Fn(), theirs: impl Fn()) -> String {
     let [ours, theirs] = in_turn(ours, theirs);
     let ratio = ours.median / theirs.median;
-    row(drawn, &format!("{ours:.1} | {theirs:.1} | {ratio:.2}"))
+    row(named, &format!("{ours:.1} | {theirs:.1} | {ratio:.2}"))
 }
 
-pub fn row(drawn: &Drawn, cells: &str) -> String {
-    let (name, bits) = drawn.named();
-    format!("| {name} | {bits} | {cells} |")
+pub fn row((name, size): Named, cells: &str) -> String {
+    format!("| {name} | {size} | {cells} |")
 }
 
 /// The nanoseconds a call of two passes. A pass asks each of its inputs once.

@@ -3,15 +3,17 @@
 use comparison::bench::calls;
 #[cfg(feature = "functions")]
 use comparison::bench::functions;
+use comparison::bench::packed;
 use comparison::bench::programs::Programs;
 use std::process::ExitCode;
 
 const HELP: &str = "\
-Times the port beside MartyPC's own Rust.
+Times the port beside MartyPC's own Rust, or beside plain Rust where MartyPC has nothing.
 
 use:
   bench functions                               bare functions, where the feature of that name is on
   bench calls                                   one call at a time, by operation
+  bench packed                                  packed digits, by operation and length
   bench programs HATCHYARN FILTER FOLDER        whole programs; files are made in FOLDER
 
 exit: 0 measured, 1 the two sides answer differently or a file failed, 2 not understood
@@ -24,6 +26,7 @@ fn main() -> ExitCode {
         #[cfg(feature = "functions")]
         ["functions"] => functions::print(),
         ["calls"] => calls::print(),
+        ["packed"] => packed::print(),
         ["programs", ours, theirs, folder] => Programs {
             ours: ours.into(),
             theirs: theirs.into(),

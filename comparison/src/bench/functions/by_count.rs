@@ -21,7 +21,8 @@ pub fn print() -> Result<(), String> {
         let long = format!("count {LONG}");
         [short, long, format!("ratio {LONG} / {SHORT}")]
     };
-    let columns = ["Hatchyarn", "MartyPC's Rust"].map(side).concat();
+    let sides = ["Hatchyarn", "MartyPC's Rust"].map(side).concat();
+    let columns = [vec!["bits".to_string()], sides].concat();
     let shifts = Operation::all().filter(has_count);
     let rows = shifts.map(|operation| row(operation, &ByCount::new(operation)));
     table::print(&inputs, turns, &columns, rows)
@@ -66,7 +67,8 @@ impl Measured for ByCount {
         self.short.compare(&ours, &theirs)?;
         self.long.compare(&ours, &theirs)?;
         let (ours, theirs) = (self.cells(ours), self.cells(theirs));
-        Ok(table::row(&self.short.drawn, &format!("{ours} | {theirs}")))
+        let cells = format!("{ours} | {theirs}");
+        Ok(table::row(self.short.drawn.named(), &cells))
     }
 }
 

@@ -89,7 +89,7 @@ impl Measured for Pair {
     ) -> Row {
         self.compare(&ours, &theirs)?;
         let (ours, theirs) = (|| self.pass(&ours), || self.pass(&theirs));
-        Ok(table::beside(&self.drawn, ours, theirs))
+        Ok(table::beside(self.drawn.named(), ours, theirs))
     }
 }
 
