@@ -1,73 +1,55 @@
 //! What a careful engineer writes in plain Rust for the promise of the two functions: the same refusals
-//! in the same order, then byte by byte with the carry. Benchmarks time the port beside it.
+//! in the same order, then one pass over the bytes, with the two digits of each and the carry. Benchmarks
+//! time the port beside it.
 //!
-//! Of the forms that were tried it is the quickest at 16 and at 32 bytes. The others look at all digits
-//! first and then work in one pass: on the two digits of a byte in turn, with branches and without; on
-//! both at once, with a 6 for each that passes 9; on the byte's value, worked out or found in a table. The
-//! table is quicker at 4 bytes, by about a tenth or less.
+//! All digits are looked at without a way out, which is quicker than to stop at the first that is over 9.
 
 use super::reference::LONGEST;
-
-/// The lower two digits of a sum, packed. No sum is over 199, but an index that is a byte needs no check.
-static PACKED: [u8; 256] = packed();
-
-const fn packed() -> [u8; 256] {
-    let mut table = [0; 256];
-    let mut sum = 0;
-    while sum < 256 {
-        table[sum] = (sum / 10 % 10 * 16 + sum % 10) as u8;
-        sum += 1;
-    }
-    table
-}
 
 /// Adds as the port's function does. It is never inlined, because the port's is a call too.
 #[inline(never)]
 pub fn add(x: &[u8], y: &[u8], carry: bool, out: &mut [u8], carry_out: &mut u8) -> u8 {
-    let mut sums = [0; LONGEST];
-    let status = judge(x, y, out.len(), &mut sums, u8::wrapping_add);
-    if status == 0 {
-        *carry_out = hand_on(&sums[..x.len()], carry.into(), out);
+    let status = judge(x, y, out.len());
+    if status != 0 {
+        return status;
     }
-    status
+    let mut carry = u8::from(carry);
+    for ((to, &x), &y) in out.iter_mut().zip(x).zip(y) {
+        let (low, over) = summed((x & 0x0F) + (y & 0x0F) + carry);
+        let (high, over) = summed((x >> 4) + (y >> 4) + over);
+        *to = high << 4 | low;
+        carry = over;
+    }
+    *carry_out = carry;
+    0
 }
 
-/// Subtracts as the port's function does: adds what Y lacks of 99 in each byte, with a carry where there
-/// is no borrow.
+/// Subtracts as the port's function does.
 #[inline(never)]
 pub fn subtract(x: &[u8], y: &[u8], borrow: bool, out: &mut [u8], borrow_out: &mut u8) -> u8 {
-    let mut sums = [0; LONGEST];
-    let lacking = |x: u8, y: u8| x.wrapping_add(99).wrapping_sub(y);
-    let status = judge(x, y, out.len(), &mut sums, lacking);
-    if status == 0 {
-        *borrow_out = 1 - hand_on(&sums[..x.len()], (!borrow).into(), out);
+    let status = judge(x, y, out.len());
+    if status != 0 {
+        return status;
     }
-    status
+    let mut borrow = u8::from(borrow);
+    for ((to, &x), &y) in out.iter_mut().zip(x).zip(y) {
+        let (low, under) = taken(10 + (x & 0x0F) - (y & 0x0F) - borrow);
+        let (high, under) = taken(10 + (x >> 4) - (y >> 4) - under);
+        *to = high << 4 | low;
+        borrow = under;
+    }
+    *borrow_out = borrow;
+    0
 }
 
-/// The status, and the sum of each two bytes without any carry. Digits are looked at while their bytes
-/// are summed, without a branch, so that the compiler takes many bytes at once. A sum wraps only if it is
-/// none of digits, and is then not used.
-#[inline(always)]
-fn judge(
-    x: &[u8],
-    y: &[u8],
-    room: usize,
-    sums: &mut [u8; LONGEST],
-    sum: impl Fn(u8, u8) -> u8,
-) -> u8 {
+fn judge(x: &[u8], y: &[u8], room: usize) -> u8 {
     if x.len() != y.len() {
         return 20;
     }
     if x.is_empty() || x.len() > LONGEST {
         return 21;
     }
-    let mut seen = 0;
-    for ((to, &x), &y) in sums.iter_mut().zip(x).zip(y) {
-        seen |= sixes(x) | sixes(y);
-        *to = sum(value(x), value(y));
-    }
-    if seen & 0x10 != 0 {
+    if !(are_packed(x) & are_packed(y)) {
         return 22;
     }
     if room < x.len() {
@@ -76,25 +58,25 @@ fn judge(
     0
 }
 
-/// Has bit 4 set if a digit is over 9.
-#[inline(always)]
-fn sixes(byte: u8) -> u8 {
-    ((byte & 0x0F) + 6) | ((byte >> 4) + 6)
+fn are_packed(bytes: &[u8]) -> bool {
+    let packed = |byte: u8| (byte >> 4 <= 9) & (byte & 0x0F <= 9);
+    bytes.iter().fold(true, |all, &byte| all & packed(byte))
 }
 
-/// The number from 0 to 99 that two digits are.
-#[inline(always)]
-fn value(byte: u8) -> u8 {
-    byte - 6 * (byte >> 4)
-}
-
-/// Writes the digits of the sums, each with the carry of the one before it. Returns the last carry.
-#[inline(always)]
-fn hand_on(sums: &[u8], mut carry: u8, out: &mut [u8]) -> u8 {
-    for (to, sum) in out.iter_mut().zip(sums) {
-        let sum = sum + carry;
-        *to = PACKED[usize::from(sum)];
-        carry = u8::from(sum > 99);
+/// The digit of a sum of two digits and a carry, and the carry out.
+fn summed(sum: u8) -> (u8, u8) {
+    if sum > 9 {
+        (sum - 10, 1)
+    } else {
+        (sum, 0)
     }
-    carry
+}
+
+/// The digit of a difference of two digits and a borrow, handed over with 10 more, and the borrow out.
+fn taken(difference: u8) -> (u8, u8) {
+    if difference > 9 {
+        (difference - 10, 0)
+    } else {
+        (difference, 1)
+    }
 }

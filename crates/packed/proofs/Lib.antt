@@ -7,3 +7,4 @@ pub mod ByteLaws
 pub mod JudgeLaws
 pub mod HalvesLaws
 pub mod ToldLaws
+pub mod PackedLaws

@@ -6,6 +6,7 @@ pub mod OfNegate
 pub mod OfMultiply
 pub mod OfDivide
 pub mod OfBcd
+pub mod OfPacked
 pub mod OfRegisters
 pub mod OfRequest
 pub mod OfAnswer

@@ -12,3 +12,9 @@ module _ {M : Type 1} where
 
   pub lib-hatchyarn-run : Tight M lib.hatchyarn_run.signature lib.hatchyarn_run.clauses
   lib-hatchyarn-run c g r s = plainly (c .𝓤) (λ e d. let t = same e d in (λ i. t i .lines, λ i. (tt, (t i .bytes, (tt, (t i .used, tt))))))
+
+  pub lib-hatchyarn-packed-add : Tight M lib.hatchyarn_packed_add.signature lib.hatchyarn_packed_add.clauses
+  lib-hatchyarn-packed-add c g r s = plainly (c .𝓤) (λ e d. let t = same e d in (λ i. t i .status, λ i. (tt, (tt, (tt, (t i .buffer, (t i .carry, tt)))))))
+
+  pub lib-hatchyarn-packed-subtract : Tight M lib.hatchyarn_packed_subtract.signature lib.hatchyarn_packed_subtract.clauses
+  lib-hatchyarn-packed-subtract c g r s = plainly (c .𝓤) (λ e d. let t = same e d in (λ i. t i .status, λ i. (tt, (tt, (tt, (t i .buffer, (t i .carry, tt)))))))

@@ -1,0 +1,136 @@
+-- What people rely on when they add and subtract packed strings. These are laws of the definitions, for strings of any length. Assumes nothing.
+use mathlib.Core.Path.{_≡_, refl, sym, ap, _∙_}
+use mathlib.Core.Bool.{Bool, true, false, not}
+use mathlib.Core.List.{List, [], _∷_, _++_}
+use Prim.Native.Nat.{ℕ, zero, suc, _+_, _-_, _*_, _%_, _^_, _≤_, _<_}
+use native.Mathlib.Nat.{mod-lt, mod-eq-of-lt}
+use native.Mathlib.Omega.{arith}
+use lib.Dec.{leb, ltb}
+use lib.ListN.{length, replicate, length-replicate}
+use borrow.Author.Tests.{leb-true, leb-false, lt-leb, ltb-true, ltb-false, lt-ltb, le-ltb, le-leb}
+use Rattle.flags.specs.Numbers.{bit}
+use Rattle.flags.proofs.Powers.{rest-small, rest-large}
+use Rattle.flags.proofs.WordLaws.{bit-le}
+use Rattle.packed.specs.Digits.{allPacked, numberOf, bytesOf}
+use Rattle.packed.specs.Sum.{Worked, Operation, plus, minus, operationOf}
+use Rattle.packed.specs.Packed.{Strung, strung, stringBy}
+use Rattle.packed.proofs.DigitLaws.{some-numbers, number-below, length-bytes, bytes-packed, number-of-bytes, bytes-of-number}
+use Rattle.packed.proofs.PartLaws.{ByParts, by-parts}
+use Rattle.packed.proofs.StringLaws.{behind, string-cut, string-length}
+
+abbrev worked : ℕ → Bool → Worked
+worked number carry = record { number = number; carry = carry }
+
+-- a result is packed digits again
+pub result-packed : (op : Operation) (x y : List ℕ) (c : Bool) → allPacked (stringBy op x y c .bytes) ≡ true
+unfolding stringBy
+result-packed op x y c = bytes-packed (length x) (op (10 ^ (2 * length x)) (numberOf x) (numberOf y) c .number)
+
+-- and its number is the sum or difference mod 10 ^ (2 l)
+pub result-number : (subtract : Bool) (x y : List ℕ) (c : Bool)
+    → numberOf (stringBy (operationOf subtract) x y c .bytes) ≡ operationOf subtract (10 ^ (2 * length x)) (numberOf x) (numberOf y) c .number
+unfolding stringBy
+result-number subtract x y c =
+    let m = 10 ^ (2 * length x) in
+    number-of-bytes (length x) (operationOf subtract m (numberOf x) (numberOf y) c .number)
+    ∙ mod-eq-of-lt (by-parts subtract .below m (numberOf x) (numberOf y) c (some-numbers (length x)))
+
+-- a result whose number is that of given bytes is those bytes
+result-is : (op : Operation) (x y : List ℕ) (c k : Bool) (bytes : List ℕ) → length x ≡ length bytes → allPacked bytes ≡ true
+    → op (10 ^ (2 * length x)) (numberOf x) (numberOf y) c ≡ worked (numberOf bytes) k → stringBy op x y c ≡ strung bytes k
+unfolding stringBy
+result-is op x y c k bytes l h e =
+    (λ i. strung (bytesOf (length x) (e i .number)) (e i .carry)) ∙ (λ i. strung (bytesOf (l i) (numberOf bytes)) k) ∙ (λ i. strung (bytes-of-number bytes h i) k)
+
+zeros : (n : ℕ) → numberOf (replicate n 0) ≡ 0
+unfolding numberOf
+zeros zero = refl
+zeros (suc n) = let rest = zeros n in omega arith
+
+-- a sum by its number and carry
+module _ (m x y : ℕ) (c : Bool) where
+  sum-is : (n : ℕ) (k : Bool) → n < m → n + bit k * m ≡ x + y + bit c → plus m x y c ≡ worked n k
+  sum-is n true h e =
+      let s = x + y + bit c in
+      let rest : s % m ≡ n = omega (arith, rest-large s m (omega arith) (omega arith)) in
+      λ i. worked (rest i) (le-leb m s (omega arith) i)
+  sum-is n false h e =
+      let s = x + y + bit c in
+      let rest : s % m ≡ n = omega (arith, rest-small s m (omega arith)) in
+      λ i. worked (rest i) (lt-leb m s (omega arith) i)
+
+  sum-of : x < m → y < m → plus m x y c .number + bit (plus m x y c .carry) * m ≡ x + y + bit c
+  sum-of hx hy = by (leb m (x + y + bit c)) refl
+    where
+      by : (k : Bool) → leb m (x + y + bit c) ≡ k → (x + y + bit c) % m + bit k * m ≡ x + y + bit c
+      by true e = let one = bit-le c in omega (arith, rest-large (x + y + bit c) m (omega arith) (leb-true m (x + y + bit c) e))
+      by false e = omega (arith, rest-small (x + y + bit c) m (leb-false m (x + y + bit c) e))
+
+  -- and a difference by its number and borrow
+  difference-is : (n : ℕ) (k : Bool) → n < m → n + (y + bit c) ≡ x + bit k * m → minus m x y c ≡ worked n k
+  difference-is n true h e =
+      let t = m + x - (y + bit c) in
+      let rest : t % m ≡ n = omega (arith, rest-small t m (omega arith)) in
+      λ i. worked (rest i) (lt-ltb x (y + bit c) (omega arith) i)
+  difference-is n false h e =
+      let t = m + x - (y + bit c) in
+      let rest : t % m ≡ n = omega (arith, rest-large t m (omega arith) (omega arith)) in
+      λ i. worked (rest i) (le-ltb x (y + bit c) (omega arith) i)
+
+  difference-of : x < m → y < m → minus m x y c .number + (y + bit c) ≡ x + bit (minus m x y c .carry) * m
+  difference-of hx hy = by (ltb x (y + bit c)) refl
+    where
+      by : (k : Bool) → ltb x (y + bit c) ≡ k → (m + x - (y + bit c)) % m + (y + bit c) ≡ x + bit k * m
+      by true e = let one = bit-le c in let less = ltb-true x (y + bit c) e in omega (arith, rest-small (m + x - (y + bit c)) m (omega arith))
+      by false e = let more = ltb-false x (y + bit c) e in omega (arith, rest-large (m + x - (y + bit c)) m (omega arith) (omega arith))
+
+nothing : (subtract : Bool) (m x : ℕ) → x < m → operationOf subtract m x 0 false ≡ worked x false
+nothing false m x h = sum-is m x 0 false x false h (omega arith)
+nothing true m x h = difference-is m x 0 false x false h (omega arith)
+
+-- adding or subtracting 0, with nothing carried in, gives the number back
+pub by-nothing : (subtract : Bool) (x : List ℕ) → allPacked x ≡ true → stringBy (operationOf subtract) x (replicate (length x) 0) false ≡ strung x false
+by-nothing subtract x h =
+    let m = 10 ^ (2 * length x) in
+    result-is (operationOf subtract) x (replicate (length x) 0) false false x refl h
+    (ap (λ (k : ℕ). operationOf subtract m (numberOf x) k false) (zeros (length x)) ∙ nothing subtract m (numberOf x) (number-below x h))
+
+-- the order of the operands of a sum does not matter
+pub either-order : (x y : List ℕ) (c : Bool) → length x ≡ length y → stringBy plus x y c ≡ stringBy plus y x c
+unfolding stringBy
+either-order x y c l =
+    let sum : numberOf x + numberOf y + bit c ≡ numberOf y + numberOf x + bit c = omega arith in
+    λ i. strung (bytesOf (l i) (sum i % 10 ^ (2 * l i))) (leb (10 ^ (2 * l i)) (sum i))
+
+undone : (subtract : Bool) (m x y : ℕ) (c : Bool) → x < m → y < m
+    → operationOf (not subtract) m (operationOf subtract m x y c .number) y c ≡ worked x (operationOf subtract m x y c .carry)
+undone false m x y c hx hy =
+    let made = plus m x y c in difference-is m (made .number) y c x (made .carry) hx (omega (arith, sum-of m x y c hx hy))
+undone true m x y c hx hy =
+    let made = minus m x y c in sum-is m (made .number) y c x (made .carry) hx (omega (arith, difference-of m x y c hx hy))
+
+-- what was added, subtracted again with the carry in as the borrow in, gives the number back, and the borrow out is the carry out; and what was
+-- subtracted, added again
+pub taken-back : (subtract : Bool) (x y : List ℕ) (c : Bool) → allPacked x ≡ true → allPacked y ≡ true → length x ≡ length y
+    → stringBy (operationOf (not subtract)) (stringBy (operationOf subtract) x y c .bytes) y c ≡ strung x (stringBy (operationOf subtract) x y c .carry)
+unfolding stringBy
+taken-back subtract x y c hx hy l =
+    let m = 10 ^ (2 * length x) in
+    let made = stringBy (operationOf subtract) x y c in
+    let size = string-length (by-parts subtract) x y c in
+    let under : numberOf y < m = rw l (number-below y hy) in
+    result-is (operationOf (not subtract)) (made .bytes) y c (made .carry) x size hx
+    ((λ i. operationOf (not subtract) (10 ^ (2 * size i)) (result-number subtract x y c i) (numberOf y) c)
+    ∙ undone subtract m (numberOf x) (numberOf y) c (number-below x hx) under)
+
+-- a string cut in two anywhere: the lower parts, and then the upper with their carry or borrow. So longer numbers are worked out in pieces
+pub in-pieces : (subtract : Bool) (x y xs ys : List ℕ) (c : Bool) → allPacked x ≡ true → allPacked y ≡ true → allPacked ys ≡ true → length x ≡ length y
+    → length xs ≡ length ys
+    → let low = stringBy (operationOf subtract) x y c in
+    stringBy (operationOf subtract) (x ++ xs) (y ++ ys) c ≡ behind (low .bytes) (stringBy (operationOf subtract) xs ys (low .carry))
+in-pieces subtract = string-cut (by-parts subtract)
+
+-- a loan of 28 days from day 738123, and the days between its two ends
+pub loan : (stringBy plus (0x23 ∷ 0x81 ∷ 0x73 ∷ []) (0x28 ∷ 0x00 ∷ 0x00 ∷ []) false ≡ strung (0x51 ∷ 0x81 ∷ 0x73 ∷ []) false) × (stringBy minus (0x51 ∷ 0x81 ∷ 0x73 ∷ []) (0x23 ∷ 0x81 ∷ 0x73 ∷ []) false ≡ strung (0x28 ∷ 0x00 ∷ 0x00 ∷ []) false)
+unfolding stringBy numberOf bytesOf
+loan = (refl, refl)
