@@ -1,11 +1,11 @@
 -- One byte of two digits: ADC and DAA make the decimal sum, SBB and DAS the difference. Assumes nothing.
 use mathlib.Core.Path.{_≡_, refl, sym, ap, _∙_}
 use mathlib.Core.Bool.{Bool, true, false, cond, _||_}
-use Prim.Native.Nat.{ℕ, _+_, _-_, _*_, _/_, _%_, _≤_, _<_}
+use Prim.Native.Nat.{ℕ, _+_, _-_, _*_, _/_, _%_, _<_}
 use native.Mathlib.Nat.{mod-eq-of-lt}
 use native.Mathlib.Omega.{arith}
 use lib.Dec.{leb, ltb}
-use borrow.Author.Tests.{leb-true, leb-false, le-leb, lt-leb, ltb-true, ltb-false, lt-ltb, le-ltb}
+use borrow.Author.Tests.{leb-true, leb-false, le-leb, lt-leb, ltb-true, ltb-false, lt-ltb}
 use Rattle.flags.specs.Numbers.{bit}
 use Rattle.flags.specs.Szp.{szp}
 use Rattle.flags.specs.declared.word.Flags.{Flags}
@@ -14,7 +14,7 @@ use Rattle.alu.specs.Result.{ResultCoa}
 use Rattle.alu.specs.Sum.{adc, sbb}
 use Rattle.alu.specs.Views.{coa8}
 use Rattle.alu.specs.declared.result.ResultCoa8.{ResultCoa8}
-use Rattle.bcd.specs.Adjust.{alOf, adjusts}
+use Rattle.bcd.specs.Adjust.{adjusts}
 use Rattle.bcd.specs.Decimal.{highAdjusts, distance, decimal, daaOf, dasOf}
 use Rattle.bcd.specs.declared.adjust.Adjusted.{Adjusted}
 use Rattle.bcd.proofs.AdjustLaws.{factors}

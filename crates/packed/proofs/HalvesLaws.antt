@@ -2,7 +2,7 @@
 use mathlib.Core.Path.{_≡_, refl, sym, ap, _∙_}
 use mathlib.Core.Bool.{Bool, true, false, not}
 use mathlib.Core.List.{List, [], _∷_, _++_, append-assoc}
-use Prim.Native.Nat.{ℕ, zero, suc, _+_, _-_, _*_, _≤_, _<_}
+use Prim.Native.Nat.{ℕ, zero, suc, _+_, _-_, _≤_, _<_}
 use native.Mathlib.Nat.{sub-zero}
 use native.Mathlib.Numerals.{add-one}
 use native.Mathlib.Omega.{arith}
@@ -11,14 +11,13 @@ use lib.Arith.{lt-of-le-ne}
 use lib.Dec.{eqb}
 use lib.ListN.{length, take, drop, getD, set, replicate, take-append-drop, length-set, length-drop, drop-of-length-le}
 use lib.Seq.{drop-cons, take-suc-set, drop-set-lt, getD-set-same, getD-set-other, lt-length-set}
-use Rattle.flags.specs.Numbers.{bit}
 use Rattle.flags.proofs.WordLaws.{bit-le}
 use Rattle.packed.specs.Sum.{Operation, operationOf}
 use Rattle.packed.specs.Judge.{Operands, judged}
 use Rattle.packed.specs.Packed.{Strung, strung, stringBy, left, leftBy, packedBy}
 use Rattle.packed.specs.Byte.{byteBy}
 use Rattle.packed.specs.declared.byte.Byte.{Byte}
-use Rattle.packed.specs.Halves.{halfOf, InHalves, Made, chosen, before, onto}
+use Rattle.packed.specs.Halves.{halfOf, InHalves, WorkSpace, Made, chosen, before, onto}
 use Rattle.packed.specs.declared.judge.Judged.the-variants.{Admitted}
 use Rattle.packed.specs.declared.string.Outcome.the-variants.{Done}
 use Rattle.packed.proofs.DigitLaws.{all-at, all-drop}
@@ -94,10 +93,8 @@ set-within m (s ∷ space) (suc p) a h l zero = h zero
 set-within m (s ∷ space) (suc p) a h l (suc k) = set-within m space p a (λ k. h (suc k)) l k
 
 -- nothing is made yet
-pub none-made : (op : Operation) (x y : List ℕ) {bytes halves : List ℕ} → length bytes ≡ 64 → length halves ≡ 64 → ((k : ℕ) → getD halves k 0 ≤ 32)
-    → Made op x y 0 bytes halves
-none-made op x y hb hh w =
-    record { byteAt = λ c i h. absurd (omega arith); halfAt = λ c i h. absurd (omega arith); within = w; places = (hb, hh) }
+pub none-made : (op : Operation) (x y : List ℕ) {bytes halves : List ℕ} → WorkSpace bytes halves → Made op x y 0 bytes halves
+none-made op x y w = record { byteAt = λ c i h. absurd (omega arith); halfAt = λ c i h. absurd (omega arith); space = w }
 
 -- a byte more of a string is made
 module _ (op : Operation) (x y : List ℕ) (i : ℕ) (bytes halves : List ℕ) (so-far : Made op x y i bytes halves) (h : i < 32) where
@@ -105,10 +102,14 @@ module _ (op : Operation) (x y : List ℕ) (i : ℕ) (bytes halves : List ℕ) (
       → Made op x y (i + 1) (set (set bytes i (without .byte)) (32 + i) (with .byte)) (set (set halves i (halfOf (without .carry))) (32 + i) (halfOf (with .carry)))
   made-more {without} {with} e d =
       record {
-        byteAt = halves-more (λ c j. byteBy op (getD x j 0) (getD y j 0) c .byte) bytes i (so-far .byteAt) h (so-far .places .0) (ap (λ (b : Byte). b .byte) e) (ap (λ (b : Byte). b .byte) d);
-        halfAt = halves-more (λ c j. halfOf (byteBy op (getD x j 0) (getD y j 0) c .carry)) halves i (so-far .halfAt) h (so-far .places .1) (ap (λ (b : Byte). halfOf (b .carry)) e) (ap (λ (b : Byte). halfOf (b .carry)) d);
-        within = set-within 32 (set halves i (halfOf (without .carry))) (32 + i) (halfOf (with .carry)) (set-within 32 halves i (halfOf (without .carry)) (so-far .within) (omega (arith, bit-le (without .carry)))) (omega (arith, bit-le (with .carry)));
-        places = (simp length-set (so-far .places .0), simp length-set (so-far .places .1));
+        byteAt = halves-more (λ c j. byteBy op (getD x j 0) (getD y j 0) c .byte) bytes i (so-far .byteAt) h (so-far .space .bytesSize) (ap (λ (b : Byte). b .byte) e) (ap (λ (b : Byte). b .byte) d);
+        halfAt = halves-more (λ c j. halfOf (byteBy op (getD x j 0) (getD y j 0) c .carry)) halves i (so-far .halfAt) h (so-far .space .halvesSize) (ap (λ (b : Byte). halfOf (b .carry)) e) (ap (λ (b : Byte). halfOf (b .carry)) d);
+        space =
+            record {
+              bytesSize = simp length-set (so-far .space .bytesSize);
+              halvesSize = simp length-set (so-far .space .halvesSize);
+              within = set-within 32 (set halves i (halfOf (without .carry))) (32 + i) (halfOf (with .carry)) (set-within 32 halves i (halfOf (without .carry)) (so-far .space .within) (omega (arith, bit-le (without .carry)))) (omega (arith, bit-le (with .carry)));
+            };
       }
 
 -- a carry is read off the half that it chose
@@ -145,7 +146,11 @@ module _ (subtract : Bool) (x y : List ℕ) {bytes halves : List ℕ} (operands 
       ∙ (λ k. leftBy (sym e k) result out)
 
 -- in a list of zeros all are at most m
-pub zeros-within : (n m k : ℕ) → getD (replicate n 0) k 0 ≤ m
+zeros-within : (n m k : ℕ) → getD (replicate n 0) k 0 ≤ m
 zeros-within zero m k = omega arith
 zeros-within (suc n) m zero = omega arith
 zeros-within (suc n) m (suc k) = zeros-within n m k
+
+-- a work space as it begins
+pub fresh : WorkSpace (replicate 64 0) (replicate 64 0)
+fresh = record { bytesSize = refl; halvesSize = refl; within = zeros-within 64 32 }

@@ -1,21 +1,21 @@
 -- What people rely on when they add and subtract packed strings. These are laws of the definitions, for strings of any length. Assumes nothing.
-use mathlib.Core.Path.{_≡_, refl, sym, ap, _∙_}
+use mathlib.Core.Path.{_≡_, refl, ap, _∙_}
 use mathlib.Core.Bool.{Bool, true, false, not}
 use mathlib.Core.List.{List, [], _∷_, _++_}
-use Prim.Native.Nat.{ℕ, zero, suc, _+_, _-_, _*_, _%_, _^_, _≤_, _<_}
-use native.Mathlib.Nat.{mod-lt, mod-eq-of-lt}
+use Prim.Native.Nat.{ℕ, zero, suc, _+_, _-_, _*_, _%_, _^_, _<_}
+use native.Mathlib.Nat.{mod-eq-of-lt}
 use native.Mathlib.Omega.{arith}
 use lib.Dec.{leb, ltb}
-use lib.ListN.{length, replicate, length-replicate}
+use lib.ListN.{length, replicate}
 use borrow.Author.Tests.{leb-true, leb-false, lt-leb, ltb-true, ltb-false, lt-ltb, le-ltb, le-leb}
 use Rattle.flags.specs.Numbers.{bit}
 use Rattle.flags.proofs.Powers.{rest-small, rest-large}
 use Rattle.flags.proofs.WordLaws.{bit-le}
 use Rattle.packed.specs.Digits.{allPacked, numberOf, bytesOf}
 use Rattle.packed.specs.Sum.{Worked, Operation, plus, minus, operationOf}
-use Rattle.packed.specs.Packed.{Strung, strung, stringBy}
-use Rattle.packed.proofs.DigitLaws.{some-numbers, number-below, length-bytes, bytes-packed, number-of-bytes, bytes-of-number}
-use Rattle.packed.proofs.PartLaws.{ByParts, by-parts}
+use Rattle.packed.specs.Packed.{strung, stringBy}
+use Rattle.packed.proofs.DigitLaws.{some-numbers, number-below, bytes-packed, number-of-bytes, bytes-of-number}
+use Rattle.packed.proofs.PartLaws.{by-parts}
 use Rattle.packed.proofs.StringLaws.{behind, string-cut, string-length}
 
 abbrev worked : ℕ → Bool → Worked

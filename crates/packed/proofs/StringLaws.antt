@@ -1,17 +1,16 @@
 -- Strings byte after byte, for any operation that is done by parts. Assumes nothing.
-use mathlib.Core.Path.{_≡_, refl, sym, ap, _∙_}
+use mathlib.Core.Path.{_≡_, sym, ap, _∙_}
 use mathlib.Core.Bool.{Bool, true}
 use mathlib.Core.List.{List, [], _∷_, _++_}
-use Prim.Native.Nat.{ℕ, suc, _+_, _*_, _/_, _%_, _^_, _≤_, _<_}
+use Prim.Native.Nat.{ℕ, suc, _+_, _*_, _/_, _%_, _^_, _<_}
 use native.Mathlib.Omega.{arith}
 use lib.ListN.{length, length-append}
 use lib.Dec.{lit<}
 use Rattle.packed.specs.Digits.{isPacked, allPacked, twoDigits, byteOf, numberOf, bytesOf}
-use Rattle.packed.specs.Sum.{Worked, Operation}
+use Rattle.packed.specs.Sum.{Operation}
 use Rattle.packed.specs.Byte.{byteBy}
 use Rattle.packed.specs.Halves.{before}
 use Rattle.packed.specs.Packed.{Strung, strung, stringBy}
-use Rattle.packed.specs.declared.byte.Byte.{Byte}
 use Rattle.packed.proofs.DigitLaws.{two-below, all-cons, all-append, hundredfold, number-below, length-bytes}
 use Rattle.packed.proofs.PartLaws.{ByParts, above}
 

@@ -1,5 +1,4 @@
--- How a string is worked out: each byte is made for either carry into it, and the carry that comes chooses. The two lie in the halves of a work
--- space of 64 places. Assumes nothing.
+-- How a string is worked out: each byte is made for either carry into it, and the carry that comes chooses. Assumes nothing.
 use mathlib.Core.Path.{_≡_}
 use mathlib.Core.Bool.{Bool, not}
 use mathlib.Core.List.{List, [], _∷_, _++_}
@@ -19,13 +18,17 @@ halfOf c = bit c * 32
 abbrev pub InHalves : (Bool → ℕ → ℕ) → ℕ → List ℕ → Type 0
 InHalves rule n space = (c : Bool) (i : ℕ) → i < n → getD space (halfOf c + i) 0 ≡ rule c i
 
--- the first n bytes are made: in one work space the bytes, in the other the half that the next byte is to be taken from, which is one of the two
--- at every place
+-- a work space has two halves of 32 places: for bytes, and for where the half begins that the next byte is taken from
+pub record WorkSpace (bytes halves : List ℕ) : Type 0 where
+  pub bytesSize : length bytes ≡ 64
+  pub halvesSize : length halves ≡ 64
+  pub within : (k : ℕ) → getD halves k 0 ≤ 32
+
+-- the first n bytes are made, each for either carry into it
 pub record Made (op : Operation) (x y : List ℕ) (n : ℕ) (bytes halves : List ℕ) : Type 0 where
   pub byteAt : InHalves (λ c i. byteBy op (getD x i 0) (getD y i 0) c .byte) n bytes
   pub halfAt : InHalves (λ c i. halfOf (byteBy op (getD x i 0) (getD y i 0) c .carry)) n halves
-  pub within : (k : ℕ) → getD halves k 0 ≤ 32
-  pub places : (length bytes ≡ 64) × (length halves ≡ 64)
+  pub space : WorkSpace bytes halves
 
 -- a byte before others
 abbrev pub before : ℕ → Strung → Strung

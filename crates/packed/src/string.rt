@@ -1,12 +1,11 @@
 // Strings of bytes.
 ghost use mathlib.Core.Path.{_≡_};
-ghost use mathlib.Core.List.{_++_};
-ghost use Prim.Native.Nat.{ℕ, _≤_};
-ghost use lib.ListN.{length, drop, getD};
+ghost use Prim.Native.Nat.{_≤_};
+ghost use lib.ListN.{length, drop};
 ghost use Rattle.packed.specs.Sum.{plus, minus, operationOf};
 ghost use Rattle.packed.specs.Judge.{Operands, judged};
 ghost use Rattle.packed.specs.Packed.{strung, left, packedBy};
-ghost use Rattle.packed.specs.Halves.{halfOf, Made, chosen, onto};
+ghost use Rattle.packed.specs.Halves.{halfOf, WorkSpace, Made, chosen, onto};
 use crate::byte;
 use crate::judge;
 use crate::judge::Judged;
@@ -19,11 +18,11 @@ pub enum Outcome {
     Refused(Refusal),
 }
 
-// Each byte for either carry into it: without one in the first half of the work spaces, with one in the
-// second. No byte waits for the one before, so that the compiler makes many at a time.
+// Each byte for either carry into it: without one in the first half of the work space, with one in the
+// second, which begins at 32. No byte waits for the one before, so that the compiler makes many at a time.
 fn make_both(subtract: bool, x: &[u8], y: &[u8], bytes: &mut [u8], halves: &mut [u8])
     requires { ⌜ Operands (now x) (now y) ⌝ }
-    requires { ⌜ (length (now bytes) ≡ 64) × (length (now halves) ≡ 64) × ((k : ℕ) → getD (now halves) k 0 ≤ 32) ⌝ }
+    requires { ⌜ WorkSpace (now bytes) (now halves) ⌝ }
     ensures { λ _. ⌜ Made (operationOf subtract) (now (x .entry)) (now (y .entry)) (length (now (x .entry))) (now (bytes .exit)) (now (halves .exit)) ⌝ }
 {
     let table = parity::parity_table();
@@ -41,9 +40,9 @@ fn make_both(subtract: bool, x: &[u8], y: &[u8], bytes: &mut [u8], halves: &mut 
     }
 }
 
-// The bytes by the carries that come, the lowest first.
+// The bytes by the carries that come, the lowest first: each names the half that the next is taken from.
 fn choose(bytes: &[u8], halves: &[u8], size: usize, carry: bool, out: &mut [u8]) -> bool
-    requires { ⌜ (length (now bytes) ≡ 64) × (length (now halves) ≡ 64) × ((k : ℕ) → getD (now halves) k 0 ≤ 32) ⌝ }
+    requires { ⌜ WorkSpace (now bytes) (now halves) ⌝ }
     requires { ⌜ (size ≤ 32) × (size ≤ length (now out)) ⌝ }
     ensures { λ r. ⌜ strung (now (out .exit)) r ≡ onto (chosen (now (bytes .entry)) (now (halves .entry)) size 0 (halfOf carry)) (drop size (now (out .entry))) ⌝ }
 {

@@ -1,5 +1,5 @@
 -- `packed::judge::both_packed` meets its contract. The invariant: what was seen and what is left are packed exactly if all is. Assumes nothing.
-use mathlib.Core.Path.{_≡_, refl, ap, _∙_}
+use mathlib.Core.Path.{_≡_, refl, _∙_}
 use mathlib.Core.Bool.{_&&_}
 use Prim.Native.Nat.{_-_, _≤_}
 use native.Mathlib.Omega.{arith}

@@ -1,5 +1,5 @@
 -- `packed::string::add` meets its contract, by what `judge` says. Assumes nothing.
-use mathlib.Core.Path.{_≡_, sym, _∙_}
+use mathlib.Core.Path.{sym, _∙_}
 use borrow.Author.Needs.{needs}
 use Rattle.packed.specs.Sum.{plus}
 use Rattle.packed.proofs.JudgeLaws.{refuses}

@@ -26,7 +26,7 @@ loop-again c =
     let l = c .before .before .before in
     let a = l .before .args in
     let k = l .loop .half + l .loop .i in
-    (omega arith, l .before .pre .0 .2 k, length-set (l .loop .out) (l .loop .i) _ ∙ l .loop .inv .2, choosing-more (a .bytes .now) (a .halves .now) (a .size) (l .loop .out) (l .loop .half) (l .loop .i) (omega arith) (omega arith) ∙ l .loop .inv .3)
+    (omega arith, l .before .pre .0 .within k, length-set (l .loop .out) (l .loop .i) _ ∙ l .loop .inv .2, choosing-more (a .bytes .now) (a .halves .now) (a .size) (l .loop .out) (l .loop .half) (l .loop .i) (omega arith) (omega arith) ∙ l .loop .inv .3)
 
 returns : tie.Need-returns Inv-loop μ-loop
 returns c =

@@ -23,7 +23,7 @@ abbrev μ-loop : tie.MeasureT-loop
 loop-holds : tie.Need-loop-holds Inv-loop μ-loop
 loop-holds c =
     let entry = c .before .before .before .before .before in
-    (omega arith, none-made (operationOf (entry .args .subtract)) (entry .args .x .now) (entry .args .y .now) (entry .pre .1 .0) (entry .pre .1 .1) (entry .pre .1 .2))
+    (omega arith, none-made (operationOf (entry .args .subtract)) (entry .args .x .now) (entry .args .y .now) (entry .pre .1))
 
 -- where the loop is, and where it was entered
 abbrev digits : (c : tie.In-loop Inv-loop μ-loop) → (isPacked (getD (c .before .before .before .before .before .before .before .args .x .now) (c .before .loop .i) 0) ≡ true) × (isPacked (getD (c .before .before .before .before .before .before .before .args .y .now) (c .before .loop .i) 0) ≡ true)

@@ -1,13 +1,12 @@
 -- `packed::string::work` meets its contract: what is chosen of the bytes made for either carry is the string. Assumes nothing.
-use mathlib.Core.Path.{_≡_, refl}
 use borrow.Author.Needs.{needs}
 use Rattle.packed.proofs.JudgeLaws.{admitted}
-use Rattle.packed.proofs.HalvesLaws.{zeros-within, work-done}
+use Rattle.packed.proofs.HalvesLaws.{fresh, work-done}
 use Rattle.packed.proofs.string.work.Statement.{statement}
 use Rattle.packed.proofs.string.work.Tie as tie
 
 make-both-requires : tie.Need-make-both-requires
-make-both-requires c κs = (admitted _ _ _ (c .before .before .before .before .before .pre) .0, (refl, refl, zeros-within 64 32))
+make-both-requires c κs = (admitted _ _ _ (c .before .before .before .before .before .pre) .0, fresh)
 
 choose-requires : tie.Need-choose-requires
 choose-requires c κs =
@@ -15,7 +14,7 @@ choose-requires c κs =
     let entry = both .before .before .before .before .before .before in
     let known = admitted _ _ _ (entry .pre) in
     let all = both .make-both .ensures in
-    ((all .places .0, all .places .1, all .within), (known .0 .few, known .1))
+    (all .space, (known .0 .few, known .1))
 
 returns : tie.Need-returns
 returns c =
