@@ -1,7 +1,7 @@
 -- One byte of two digits: ADC and DAA make the decimal sum, SBB and DAS the difference. Assumes nothing.
 use mathlib.Core.Path.{_≡_, refl, sym, ap, _∙_}
 use mathlib.Core.Bool.{Bool, true, false, cond, _||_}
-use Prim.Native.Nat.{ℕ, _+_, _-_, _*_, _/_, _%_, _<_}
+use Prim.Native.Nat.{ℕ, _+_, _-_, _*_, _/_, _%_, _≤_, _<_}
 use native.Mathlib.Nat.{mod-eq-of-lt}
 use native.Mathlib.Omega.{arith}
 use lib.Dec.{leb, ltb}
@@ -9,7 +9,6 @@ use borrow.Author.Tests.{leb-true, leb-false, le-leb, lt-leb, ltb-true, ltb-fals
 use Rattle.flags.specs.Numbers.{bit}
 use Rattle.flags.specs.Szp.{szp}
 use Rattle.flags.specs.declared.word.Flags.{Flags}
-use Rattle.flags.proofs.WordLaws.{bit-le}
 use Rattle.alu.specs.Result.{ResultCoa}
 use Rattle.alu.specs.Sum.{adc, sbb}
 use Rattle.alu.specs.Views.{coa8}
@@ -22,8 +21,8 @@ use Rattle.packed.specs.Digits.{isPacked, twoDigits, byteOf}
 use Rattle.packed.specs.Sum.{plus, minus}
 use Rattle.packed.specs.Byte.{byteBy, flagsAfter, ofAdjusted}
 use Rattle.packed.specs.declared.byte.Byte.{Byte}
-use Rattle.packed.proofs.DigitLaws.{digits-of}
-use Rattle.packed.proofs.CheckLaws.{check-99, added-never, subtracted-never}
+use Rattle.packed.proofs.DigitLaws.{digits-and}
+use Rattle.packed.proofs.CheckLaws.{added-99, subtracted-99}
 use Rattle.packed.proofs.PartLaws.{carried, borrowed}
 use Rattle.packed.proofs.TensLaws.{summed, taken, in-order}
 
@@ -66,6 +65,11 @@ or-test true q f g h = sym (f refl)
 or-test false true f g h = sym (g refl)
 or-test false false f g h = sym (h refl refl)
 
+-- the tests as they turn out, put into what the adjust leaves
+tested : (move : ℕ → ℕ → ℕ) (r : ResultCoa) {p q : Bool} → adjusts (r .result) (r .auxCarry) ≡ p → highAdjusts (r .result) (r .auxCarry) (r .carry) ≡ q
+    → leaves move r ≡ made (move (r .result) (bit p * 6 + bit q * 96)) q
+tested move r {p} {q} ep eq = (λ i. made (move (r .result) (cond (ep i) 6 0 + cond (eq i) 96 0)) (eq i)) ∙ (λ i. made (move (r .result) (sym (factors p q) i)) q)
+
 module _ (x y : ℕ) (c : Bool) (hx : isPacked x ≡ true) (hy : isPacked y ≡ true) where
   abbrev low : ℕ
   low = x % 16 + y % 16 + bit c
@@ -77,9 +81,7 @@ module _ (x y : ℕ) (c : Bool) (hx : isPacked x ≡ true) (hy : isPacked y ≡ 
   sum-low : adjusts (adc 8 x y c .result) (adc 8 x y c .auxCarry) ≡ leb 10 low
   unfolding adc
   sum-low =
-      let dx = digits-of x hx in
-      let dy = digits-of y hy in
-      let one = bit-le c in
+      let known = digits-and x y c hx hy in
       let digit = (x + y + bit c) % 256 % 16 in
       or-test (ltb 9 digit) (leb 16 low) (λ e. le-leb 10 low (omega (arith, ltb-true 9 digit e))) (λ e. le-leb 10 low (omega (arith, leb-true 16 low e)))
       (λ e d. lt-leb 10 low (omega (arith, ltb-false 9 digit e, leb-false 16 low d)))
@@ -87,22 +89,18 @@ module _ (x y : ℕ) (c : Bool) (hx : isPacked x ≡ true) (hy : isPacked y ≡ 
   sum-high : highAdjusts (adc 8 x y c .result) (adc 8 x y c .auxCarry) (adc 8 x y c .carry) ≡ leb 100 total
   unfolding adc
   sum-high =
-      let dx = digits-of x hx in
-      let dy = digits-of y hy in
-      let one = bit-le c in
+      let known = digits-and x y c hx hy in
       let s = x + y + bit c in
       let al = s % 256 in
-      check-99 (adc 8 x y c) (added-never x y c hx hy)
+      added-99 x y c hx hy
       ∙ or-test (ltb 0x99 al) (leb 256 s) (λ e. le-leb 100 total (omega (arith, ltb-true 0x99 al e))) (λ e. le-leb 100 total (omega (arith, leb-true 256 s e)))
       (λ e d. lt-leb 100 total (omega (arith, ltb-false 0x99 al e, leb-false 256 s d)))
 
   sum-byte : ((x + y + bit c) % 256 + (bit (leb 10 low) * 6 + bit (leb 100 total) * 96)) % 256 ≡ byteOf (total % 100)
   sum-byte =
-      let dx = digits-of x hx in
-      let dy = digits-of y hy in
-      let one = bit-le c in
-      let ten = carried 10 low (omega arith) in
-      let hundred = carried 100 total (omega arith) in
+      let known = digits-and x y c hx hy in
+      let ten : (bit (leb 10 low) * 10 ≤ low) × (low < bit (leb 10 low) * 10 + 10) = omega (arith, carried 10 low (omega arith)) in
+      let hundred : (bit (leb 100 total) * 100 ≤ total) × (total < bit (leb 100 total) * 100 + 100) = omega (arith, carried 100 total (omega arith)) in
       let p = bit (leb 10 low) in
       let q = bit (leb 100 total) in
       summed (x + y + bit c) total p q (x / 16 + y / 16 + p - q * 10) (low - p * 10) (omega arith) (omega arith) (omega arith) (omega arith)
@@ -117,41 +115,30 @@ module _ (x y : ℕ) (c : Bool) (hx : isPacked x ≡ true) (hy : isPacked y ≡ 
   difference-low : adjusts (sbb 8 x y c .result) (sbb 8 x y c .auxCarry) ≡ ltb (x % 16) lowTaken
   unfolding sbb
   difference-low =
-      let dx = digits-of x hx in
-      let dy = digits-of y hy in
-      let one = bit-le c in
+      let known = digits-and x y c hx hy in
       let digit = (256 + x - (y + bit c)) % 256 % 16 in
       or-test (ltb 9 digit) (ltb (x % 16) lowTaken) (λ e. lt-ltb (x % 16) lowTaken (omega (arith, ltb-true 9 digit e))) (λ e. e) (λ e d. d)
 
   difference-high : highAdjusts (sbb 8 x y c .result) (sbb 8 x y c .auxCarry) (sbb 8 x y c .carry) ≡ ltb (twoDigits x) allTaken
   unfolding sbb
   difference-high =
-      let dx = digits-of x hx in
-      let dy = digits-of y hy in
-      let one = bit-le c in
+      let known = digits-and x y c hx hy in
       let al = (256 + x - (y + bit c)) % 256 in
       let left : x / 16 * 16 + x % 16 ≡ x = omega arith in
       let right : y / 16 * 16 + lowTaken ≡ y + bit c = omega arith in
       let all : y / 16 * 10 + lowTaken ≡ allTaken = omega arith in
-      check-99 (sbb 8 x y c) (subtracted-never x y c hx hy)
+      subtracted-99 x y c hx hy
       ∙ or-test (ltb 0x99 al) (ltb x (y + bit c)) (λ e. lt-ltb x (y + bit c) (omega (arith, ltb-true 0x99 al e))) (λ e. e) (λ e d. d)
       ∙ (λ i. ltb (sym left i) (sym right i)) ∙ in-order (x / 16) (y / 16) (x % 16) lowTaken (omega arith) (omega arith) ∙ (λ i. ltb (twoDigits x) (all i))
 
   difference-byte : (256 + (256 + x - (y + bit c)) % 256 - (bit (ltb (x % 16) lowTaken) * 6 + bit (ltb (twoDigits x) allTaken) * 96)) % 256 ≡ byteOf ((100 + twoDigits x - allTaken) % 100)
   difference-byte =
-      let dx = digits-of x hx in
-      let dy = digits-of y hy in
-      let one = bit-le c in
-      let ten = borrowed 10 (x % 16) lowTaken (omega arith) (omega arith) in
-      let hundred = borrowed 100 (twoDigits x) allTaken (omega arith) (omega arith) in
+      let known = digits-and x y c hx hy in
+      let ten : (lowTaken ≤ x % 16 + bit (ltb (x % 16) lowTaken) * 10) × (x % 16 + bit (ltb (x % 16) lowTaken) * 10 < lowTaken + 10) = omega (arith, borrowed 10 (x % 16) lowTaken (omega arith) (omega arith)) in
+      let hundred : (allTaken ≤ twoDigits x + bit (ltb (twoDigits x) allTaken) * 100) × (twoDigits x + bit (ltb (twoDigits x) allTaken) * 100 < allTaken + 100) = omega (arith, borrowed 100 (twoDigits x) allTaken (omega arith) (omega arith)) in
       let p = bit (ltb (x % 16) lowTaken) in
       let q = bit (ltb (twoDigits x) allTaken) in
       taken x (y + bit c) (twoDigits x) allTaken p q (x / 16 + q * 10 - (y / 16 + p)) (x % 16 + p * 10 - lowTaken) (omega arith) (omega arith) (omega arith) (omega arith) (omega arith) (omega arith) (omega arith)
-
-  -- the tests as they turn out, put into what the adjust leaves
-  tested : (move : ℕ → ℕ → ℕ) (r : ResultCoa) {p q : Bool} → adjusts (r .result) (r .auxCarry) ≡ p → highAdjusts (r .result) (r .auxCarry) (r .carry) ≡ q
-      → leaves move r ≡ made (move (r .result) (bit p * 6 + bit q * 96)) q
-  tested move r {p} {q} ep eq = (λ i. made (move (r .result) (cond (ep i) 6 0 + cond (eq i) 96 0)) (eq i)) ∙ (λ i. made (move (r .result) (sym (factors p q) i)) q)
 
   pub by-adc-daa : {r : ResultCoa8} {f : Flags} {a : Adjusted} {b : Byte} → coa8 r ≡ adc 8 x y c → f ≡ flagsAfter r → a ≡ daaOf (r .result) f
       → b ≡ ofAdjusted a → b ≡ byteBy plus x y c

@@ -8,12 +8,11 @@ use lib.Dec.{leb, ltb}
 use borrow.Author.Tests.{leb-true, leb-false, ltb-true, ltb-false, lt-ltb, le-ltb}
 use Rattle.flags.specs.Numbers.{bit}
 use Rattle.flags.proofs.SignedLaws.{same-test}
-use Rattle.flags.proofs.WordLaws.{bit-le}
 use Rattle.alu.specs.Result.{ResultCoa}
 use Rattle.alu.specs.Sum.{adc, sbb}
 use Rattle.bcd.specs.Decimal.{highAdjusts}
 use Rattle.packed.specs.Digits.{isPacked}
-use Rattle.packed.proofs.DigitLaws.{digits-of}
+use Rattle.packed.proofs.DigitLaws.{digits-and}
 
 -- of what ADC or SBB leaves: with A set and C clear it is not 9A to 9F
 abbrev pub Never : ResultCoa → Type 0
@@ -42,9 +41,7 @@ module _ (x y : ℕ) (c : Bool) (hx : isPacked x ≡ true) (hy : isPacked y ≡ 
   pub added-low : adc 8 x y c .auxCarry ≡ true → adc 8 x y c .result % 16 ≤ 3
   unfolding adc
   added-low a =
-      let dx = digits-of x hx in
-      let dy = digits-of y hy in
-      let one = bit-le c in
+      let known = digits-and x y c hx hy in
       let over = leb-true 16 (x % 16 + y % 16 + bit c) a in
       omega arith
 
@@ -55,15 +52,20 @@ module _ (x y : ℕ) (c : Bool) (hx : isPacked x ≡ true) (hy : isPacked y ≡ 
   pub subtracted-high : sbb 8 x y c .auxCarry ≡ true → sbb 8 x y c .carry ≡ false → sbb 8 x y c .result < 0x90
   unfolding sbb
   subtracted-high a b =
-      let dx = digits-of x hx in
-      let dy = digits-of y hy in
-      let one = bit-le c in
+      let known = digits-and x y c hx hy in
       let lent = ltb-true (x % 16) (y % 16 + bit c) a in
       let whole = ltb-false x (y + bit c) b in
       omega arith
 
   pub subtracted-never : Never (sbb 8 x y c)
   subtracted-never a b h l = omega (arith, subtracted-high a b)
+
+  -- so for digits a check against 99 alone gives the same, after either
+  pub added-99 : highAdjusts (adc 8 x y c .result) (adc 8 x y c .auxCarry) (adc 8 x y c .carry) ≡ (ltb 0x99 (adc 8 x y c .result) || adc 8 x y c .carry)
+  added-99 = check-99 (adc 8 x y c) added-never
+
+  pub subtracted-99 : highAdjusts (sbb 8 x y c .result) (sbb 8 x y c .auxCarry) (sbb 8 x y c .carry) ≡ (ltb 0x99 (sbb 8 x y c .result) || sbb 8 x y c .carry)
+  subtracted-99 = check-99 (sbb 8 x y c) subtracted-never
 
 -- 00 - 61 hands DAS 9F with A set, and C too
 pub c-decides : (sbb 8 0x00 0x61 false .result ≡ 0x9F) × (sbb 8 0x00 0x61 false .auxCarry ≡ true) × (sbb 8 0x00 0x61 false .carry ≡ true)

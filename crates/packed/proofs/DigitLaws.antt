@@ -1,14 +1,17 @@
 -- Packed digits and the numbers that they stand for: each gives the other back. Assumes nothing.
 use mathlib.Core.Path.{_≡_, refl, sym, ap, _∙_}
-use mathlib.Core.Bool.{true, and-eq-true-iff}
+use mathlib.Core.Bool.{Bool, true, and-eq-true-iff}
 use mathlib.Core.List.{List, [], _∷_, _++_}
 use Prim.Native.Nat.{ℕ, zero, suc, _+_, _*_, _/_, _%_, _^_, _≤_, _<_}
+use native.Mathlib.Nat.{one-le-pow}
 use native.Mathlib.Omega.{arith}
 use lib.Arith.{mod-mul}
 use lib.Dec.{lit<}
 use lib.Pow.{pow-add}
 use lib.ListN.{length, drop, getD}
 use borrow.Author.Tests.{leb-true, le-leb}
+use Rattle.flags.specs.Numbers.{bit}
+use Rattle.flags.proofs.WordLaws.{bit-le}
 use Rattle.packed.specs.Digits.{isPacked, allPacked, twoDigits, byteOf, numberOf, bytesOf}
 
 -- both digits of a byte are at most 9
@@ -17,20 +20,24 @@ digits-of b h =
     let both = and-eq-true-iff _ _ .0 h in
     (leb-true (b / 16) 9 (both .0), leb-true (b % 16) 9 (both .1))
 
-pub packed-by : (b : ℕ) → b / 16 ≤ 9 → b % 16 ≤ 9 → isPacked b ≡ true
+-- and so are those of two bytes, beside a carry
+pub digits-and : (x y : ℕ) (c : Bool) → isPacked x ≡ true → isPacked y ≡ true → (x / 16 ≤ 9) × (x % 16 ≤ 9) × (y / 16 ≤ 9) × (y % 16 ≤ 9) × (bit c ≤ 1)
+digits-and x y c hx hy = (digits-of x hx .0, digits-of x hx .1, digits-of y hy .0, digits-of y hy .1, bit-le c)
+
+packed-by : (b : ℕ) → b / 16 ≤ 9 → b % 16 ≤ 9 → isPacked b ≡ true
 packed-by b h l = and-eq-true-iff _ _ .1 (le-leb (b / 16) 9 h, le-leb (b % 16) 9 l)
 
 -- two digits are a number below 100, and a number below 100 has two
 pub two-below : (b : ℕ) → isPacked b ≡ true → twoDigits b < 100
 two-below b h = let d = digits-of b h in omega arith
 
-pub two-of : (k : ℕ) → k < 100 → twoDigits (byteOf k) ≡ k
+two-of : (k : ℕ) → k < 100 → twoDigits (byteOf k) ≡ k
 two-of k h = omega arith
 
-pub byte-of : (b : ℕ) → isPacked b ≡ true → byteOf (twoDigits b) ≡ b
+byte-of : (b : ℕ) → isPacked b ≡ true → byteOf (twoDigits b) ≡ b
 byte-of b h = let d = digits-of b h in omega arith
 
-pub byte-packed : (k : ℕ) → k < 100 → isPacked (byteOf k) ≡ true
+byte-packed : (k : ℕ) → k < 100 → isPacked (byteOf k) ≡ true
 byte-packed k h = packed-by (byteOf k) (omega arith) (omega arith)
 
 -- the first byte, and the others
@@ -62,8 +69,7 @@ hundredfold l =
     ap (λ (k : ℕ). 10 ^ k) two-more ∙ pow-add 10 (2 * l) 2
 
 pub some-numbers : (l : ℕ) → 0 < 10 ^ (2 * l)
-some-numbers zero = lit< tt
-some-numbers (suc l) = let before = some-numbers l in omega (arith, hundredfold l)
+some-numbers l = one-le-pow (2 * l) 10 (lit< tt)
 
 -- bytes of l stand for a number of 2 l digits
 pub number-below : (bytes : List ℕ) → allPacked bytes ≡ true → numberOf bytes < 10 ^ (2 * length bytes)

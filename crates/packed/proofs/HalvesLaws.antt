@@ -13,16 +13,16 @@ use lib.ListN.{length, take, drop, getD, set, replicate, take-append-drop, lengt
 use lib.Seq.{drop-cons, take-suc-set, drop-set-lt, getD-set-same, getD-set-other, lt-length-set}
 use Rattle.flags.proofs.WordLaws.{bit-le}
 use Rattle.packed.specs.Sum.{Operation, operationOf}
-use Rattle.packed.specs.Judge.{Operands, judged}
-use Rattle.packed.specs.Packed.{Strung, strung, stringBy, left, leftBy, packedBy}
+use Rattle.packed.specs.Judge.{judged}
+use Rattle.packed.specs.Packed.{Strung, strung, behind, stringBy, left, leftBy, packedBy}
 use Rattle.packed.specs.Byte.{byteBy}
 use Rattle.packed.specs.declared.byte.Byte.{Byte}
-use Rattle.packed.specs.Halves.{halfOf, InHalves, WorkSpace, Made, chosen, before, onto}
+use Rattle.packed.specs.Halves.{Operands, halfOf, InHalves, WorkSpace, Made, chosen, onto}
 use Rattle.packed.specs.declared.judge.Judged.the-variants.{Admitted}
 use Rattle.packed.specs.declared.string.Outcome.the-variants.{Done}
 use Rattle.packed.proofs.DigitLaws.{all-at, all-drop}
 use Rattle.packed.proofs.PartLaws.{by-parts}
-use Rattle.packed.proofs.StringLaws.{behind, string-nil, string-cons, string-length}
+use Rattle.packed.proofs.StringLaws.{string-nil, string-cons, string-length}
 
 -- what is chosen so far, what is still to be chosen, and what stands behind
 abbrev pub choosing : List ℕ → List ℕ → ℕ → List ℕ → ℕ → ℕ → Strung
@@ -36,10 +36,10 @@ module _ (bytes halves : List ℕ) (size : ℕ) (out : List ℕ) where
       let b = getD bytes (half + i) 0 in
       let rest = chosen bytes halves (size - suc i) (suc i) (getD halves (half + i) 0) in
       let behind-it = drop size out in
-      let left : suc (size - suc i) ≡ size - i = omega arith in
+      let one-less : suc (size - suc i) ≡ size - i = omega arith in
       let there : i < length out = omega arith in
       let more : behind (take (i + 1) (set out i b)) (onto (chosen bytes halves (size - (i + 1)) (i + 1) (getD halves (half + i) 0)) (drop size (set out i b))) ≡ behind (take i out ++ (b ∷ [])) (onto rest behind-it) = rw (add-one i, take-suc-set out i b, drop-set-lt size out i b h) in
-      more ∙ (λ k. strung (append-assoc (take i out) (b ∷ []) (rest .bytes ++ behind-it) k) (rest .carry)) ∙ ap (λ (n : ℕ). behind (take i out) (onto (chosen bytes halves n i half) behind-it)) left
+      more ∙ (λ k. strung (append-assoc (take i out) (b ∷ []) (rest .bytes ++ behind-it) k) (rest .carry)) ∙ ap (λ (n : ℕ). behind (take i out) (onto (chosen bytes halves n i half) behind-it)) one-less
 
   pub all-chosen : (half i : ℕ) → i ≤ size → size ≤ i → strung out (not (eqb half 0)) ≡ choosing bytes halves size out half i
   unfolding chosen
@@ -54,19 +54,19 @@ module _ (bytes halves : List ℕ) (size : ℕ) (out : List ℕ) where
 
 -- two places of a list written
 module _ (space : List ℕ) (p q a b : ℕ) where
-  pub first-set : p < length space → (p ≡ q → ⊥) → getD (set (set space p a) q b) p 0 ≡ a
+  first-set : p < length space → (p ≡ q → ⊥) → getD (set (set space p a) q b) p 0 ≡ a
   first-set h n = getD-set-other (set space p a) q p b 0 n ∙ getD-set-same space p a 0 h
 
-  pub second-set : q < length space → getD (set (set space p a) q b) q 0 ≡ b
+  second-set : q < length space → getD (set (set space p a) q b) q 0 ≡ b
   second-set h = getD-set-same (set space p a) q b 0 (lt-length-set space p a h)
 
-  pub unset : (k : ℕ) → (k ≡ p → ⊥) → (k ≡ q → ⊥) → getD (set (set space p a) q b) k 0 ≡ getD space k 0
+  unset : (k : ℕ) → (k ≡ p → ⊥) → (k ≡ q → ⊥) → getD (set (set space p a) q b) k 0 ≡ getD space k 0
   unset k n m = getD-set-other (set space p a) q k b 0 m ∙ getD-set-other space p k a 0 n
 
 -- a place more in either half
-pub halves-more : (rule : Bool → ℕ → ℕ) (space : List ℕ) (i : ℕ) {a b : ℕ} → InHalves rule i space → i < 32 → length space ≡ 64 → a ≡ rule false i → b ≡ rule true i
+halves-more : (rule : Bool → ℕ → ℕ) (space : List ℕ) (i : ℕ) {a b : ℕ} → InHalves rule i space → i < 32 → length space ≡ 64 → a ≡ rule false i → b ≡ rule true i
     → InHalves rule (i + 1) (set (set space i a) (32 + i) b)
-halves-more rule space i {a} {b} before h l ea eb c j hj = by c (eqb j i) refl
+halves-more rule space i {a} {b} so-far h l ea eb c j hj = by c (eqb j i) refl
   where
     by : (k t : Bool) → eqb j i ≡ t → getD (set (set space i a) (32 + i) b) (halfOf k + j) 0 ≡ rule k j
     by false true e =
@@ -79,13 +79,13 @@ halves-more rule space i {a} {b} before h l ea eb c j hj = by c (eqb j i) refl
         ap (λ (k : ℕ). getD (set (set space i a) (32 + i) b) k 0) at ∙ second-set space i (32 + i) a b (omega arith) ∙ eb ∙ ap (rule true) (sym same)
     by false false e =
         let less = lt-of-le-ne {i = j} {k = i} (omega arith) (eqb-false j i e) in
-        unset space i (32 + i) a b (halfOf false + j) (λ d. omega arith) (λ d. omega arith) ∙ before false j less
+        unset space i (32 + i) a b (halfOf false + j) (λ d. omega arith) (λ d. omega arith) ∙ so-far false j less
     by true false e =
         let less = lt-of-le-ne {i = j} {k = i} (omega arith) (eqb-false j i e) in
-        unset space i (32 + i) a b (halfOf true + j) (λ d. omega arith) (λ d. omega arith) ∙ before true j less
+        unset space i (32 + i) a b (halfOf true + j) (λ d. omega arith) (λ d. omega arith) ∙ so-far true j less
 
 -- a value that is written where all are at most m
-pub set-within : (m : ℕ) (space : List ℕ) (p a : ℕ) → ((k : ℕ) → getD space k 0 ≤ m) → a ≤ m → (k : ℕ) → getD (set space p a) k 0 ≤ m
+set-within : (m : ℕ) (space : List ℕ) (p a : ℕ) → ((k : ℕ) → getD space k 0 ≤ m) → a ≤ m → (k : ℕ) → getD (set space p a) k 0 ≤ m
 set-within m [] p a h l k = h k
 set-within m (s ∷ space) zero a h l zero = l
 set-within m (s ∷ space) zero a h l (suc k) = h (suc k)
@@ -119,7 +119,7 @@ carry-of false = refl
 
 -- what is chosen from place i on is the string of what the operands have from there
 module _ (subtract : Bool) (x y : List ℕ) {bytes halves : List ℕ} (operands : Operands x y) (all : Made (operationOf subtract) x y (length x) bytes halves) where
-  pub chosen-string : (n i : ℕ) (c : Bool) → n + i ≡ length x
+  chosen-string : (n i : ℕ) (c : Bool) → n + i ≡ length x
       → chosen bytes halves n i (halfOf c) ≡ stringBy (operationOf subtract) (drop i x) (drop i y) c
   unfolding chosen
   chosen-string zero i c e =
@@ -131,7 +131,7 @@ module _ (subtract : Bool) (x y : List ℕ) {bytes halves : List ℕ} (operands 
       let there : i < length y = omega (arith, operands .alike) in
       let made = byteBy (operationOf subtract) (getD x i 0) (getD y i 0) c in
       let more = string-cons (by-parts subtract) (getD x i 0) (getD y i 0) (drop (suc i) x) (drop (suc i) y) c (all-at i x (operands .packedX) here) (all-at i y (operands .packedY) there) (all-drop (suc i) y (operands .packedY)) (simp length-drop (ap (λ (k : ℕ). k - suc i) (operands .alike))) in
-      (λ k. before (all .byteAt c i here k) (chosen bytes halves n (suc i) (all .halfAt c i here k))) ∙ ap (before (made .byte)) (chosen-string n (suc i) (made .carry) (omega arith))
+      (λ k. behind (all .byteAt c i here k ∷ []) (chosen bytes halves n (suc i) (all .halfAt c i here k))) ∙ ap (behind (made .byte ∷ [])) (chosen-string n (suc i) (made .carry) (omega arith))
       ∙ sym more ∙ (λ k. stringBy (operationOf subtract) (sym (drop-cons x i 0 here) k) (sym (drop-cons y i 0 there) k) c)
 
   -- so what is written is the string, and what stood after it
@@ -142,7 +142,7 @@ module _ (subtract : Bool) (x y : List ℕ) {bytes halves : List ℕ} (operands 
   work-done c out e w =
       let result = stringBy (operationOf subtract) x y c in
       let done = w ∙ (λ k. onto (chosen-string (length x) 0 c (omega arith) k) (drop (length x) out)) in
-      (λ k. left (Done (done k .carry)) (done k .bytes)) ∙ (λ k. left (Done (result .carry)) (result .bytes ++ drop (sym (string-length (by-parts subtract) x y c) k) out))
+      (λ k. left (Done (done k .carry)) (done k .bytes)) ∙ (λ k. left (Done (result .carry)) (result .bytes ++ drop (sym (string-length (operationOf subtract) x y c) k) out))
       ∙ (λ k. leftBy (sym e k) result out)
 
 -- in a list of zeros all are at most m

@@ -1,4 +1,4 @@
--- Both operands looked at byte by byte. Assumes nothing.
+-- What is refused: both operands looked at byte by byte, the four tests in their order, and what a refusal leaves. Assumes nothing.
 use mathlib.Core.Path.{_≡_, refl, sym}
 use mathlib.Core.Bool.{Bool, true, false, cond, not, _&&_, and-true, and-eq-true-iff}
 use mathlib.Core.List.{List}
@@ -11,7 +11,8 @@ use lib.Dec.{leb, ltb, eqb}
 use borrow.Author.Tests.{leb-true, ltb-false, eqb-true, eq-eqb, ne-eqb, lt-ltb, le-ltb}
 use Rattle.flags.specs.Numbers.{between}
 use Rattle.packed.specs.Digits.{isPacked, allPacked}
-use Rattle.packed.specs.Judge.{Operands, judged}
+use Rattle.packed.specs.Judge.{judged}
+use Rattle.packed.specs.Halves.{Operands}
 use Rattle.packed.specs.Sum.{Operation}
 use Rattle.packed.specs.Packed.{stringBy, left, leftBy, packedBy}
 use Rattle.packed.specs.declared.string.Outcome.the-variants.{Refused as NotDone}

@@ -1,22 +1,26 @@
 -- What people rely on when they add and subtract packed strings. These are laws of the definitions, for strings of any length. Assumes nothing.
-use mathlib.Core.Path.{_≡_, refl, ap, _∙_}
-use mathlib.Core.Bool.{Bool, true, false, not}
+use mathlib.Core.Path.{_≡_, refl, sym, ap, _∙_}
+use mathlib.Core.Bool.{Bool, true, false, cond, not, and-comm}
 use mathlib.Core.List.{List, [], _∷_, _++_}
 use Prim.Native.Nat.{ℕ, zero, suc, _+_, _-_, _*_, _%_, _^_, _<_}
 use native.Mathlib.Nat.{mod-eq-of-lt}
 use native.Mathlib.Omega.{arith}
-use lib.Dec.{leb, ltb}
+use lib.Dec.{leb, ltb, eqb}
 use lib.ListN.{length, replicate}
-use borrow.Author.Tests.{leb-true, leb-false, lt-leb, ltb-true, ltb-false, lt-ltb, le-ltb, le-leb}
-use Rattle.flags.specs.Numbers.{bit}
+use borrow.Author.Tests.{eqb-true, eqb-false, lt-leb, lt-ltb, le-ltb, le-leb}
+use Rattle.flags.specs.Numbers.{bit, between}
 use Rattle.flags.proofs.Powers.{rest-small, rest-large}
 use Rattle.flags.proofs.WordLaws.{bit-le}
 use Rattle.packed.specs.Digits.{allPacked, numberOf, bytesOf}
 use Rattle.packed.specs.Sum.{Worked, Operation, plus, minus, operationOf}
-use Rattle.packed.specs.Packed.{strung, stringBy}
+use Rattle.packed.specs.Packed.{strung, behind, stringBy, leftBy, packedBy}
+use Rattle.packed.specs.Judge.{judged}
+use Rattle.packed.specs.declared.judge.Refusal.the-variants.{LengthsDiffer, Length, Digit, Room}
+use Rattle.packed.specs.declared.judge.Judged.the-variants.{Admitted, Refused}
+use Rattle.packed.proofs.JudgeLaws.{differ, refuses}
 use Rattle.packed.proofs.DigitLaws.{some-numbers, number-below, bytes-packed, number-of-bytes, bytes-of-number}
-use Rattle.packed.proofs.PartLaws.{by-parts}
-use Rattle.packed.proofs.StringLaws.{behind, string-cut, string-length}
+use Rattle.packed.proofs.PartLaws.{carried, borrowed, by-parts}
+use Rattle.packed.proofs.StringLaws.{string-cut, string-length}
 
 abbrev worked : ℕ → Bool → Worked
 worked number carry = record { number = number; carry = carry }
@@ -59,13 +63,6 @@ module _ (m x y : ℕ) (c : Bool) where
       let rest : s % m ≡ n = omega (arith, rest-small s m (omega arith)) in
       λ i. worked (rest i) (lt-leb m s (omega arith) i)
 
-  sum-of : x < m → y < m → plus m x y c .number + bit (plus m x y c .carry) * m ≡ x + y + bit c
-  sum-of hx hy = by (leb m (x + y + bit c)) refl
-    where
-      by : (k : Bool) → leb m (x + y + bit c) ≡ k → (x + y + bit c) % m + bit k * m ≡ x + y + bit c
-      by true e = let one = bit-le c in omega (arith, rest-large (x + y + bit c) m (omega arith) (leb-true m (x + y + bit c) e))
-      by false e = omega (arith, rest-small (x + y + bit c) m (leb-false m (x + y + bit c) e))
-
   -- and a difference by its number and borrow
   difference-is : (n : ℕ) (k : Bool) → n < m → n + (y + bit c) ≡ x + bit k * m → minus m x y c ≡ worked n k
   difference-is n true h e =
@@ -76,13 +73,6 @@ module _ (m x y : ℕ) (c : Bool) where
       let t = m + x - (y + bit c) in
       let rest : t % m ≡ n = omega (arith, rest-large t m (omega arith) (omega arith)) in
       λ i. worked (rest i) (le-ltb x (y + bit c) (omega arith) i)
-
-  difference-of : x < m → y < m → minus m x y c .number + (y + bit c) ≡ x + bit (minus m x y c .carry) * m
-  difference-of hx hy = by (ltb x (y + bit c)) refl
-    where
-      by : (k : Bool) → ltb x (y + bit c) ≡ k → (m + x - (y + bit c)) % m + (y + bit c) ≡ x + bit k * m
-      by true e = let one = bit-le c in let less = ltb-true x (y + bit c) e in omega (arith, rest-small (m + x - (y + bit c)) m (omega arith))
-      by false e = let more = ltb-false x (y + bit c) e in omega (arith, rest-large (m + x - (y + bit c)) m (omega arith) (omega arith))
 
 nothing : (subtract : Bool) (m x : ℕ) → x < m → operationOf subtract m x 0 false ≡ worked x false
 nothing false m x h = sum-is m x 0 false x false h (omega arith)
@@ -102,12 +92,24 @@ either-order x y c l =
     let sum : numberOf x + numberOf y + bit c ≡ numberOf y + numberOf x + bit c = omega arith in
     λ i. strung (bytesOf (l i) (sum i % 10 ^ (2 * l i))) (leb (10 ^ (2 * l i)) (sum i))
 
+-- nor for what is refused, and so for what is left
+pub either-order-left : (x y : List ℕ) (c : Bool) (out : List ℕ) → packedBy plus x y c out ≡ packedBy plus y x c out
+unfolding packedBy judged
+either-order-left x y c out = by (eqb (length x) (length y)) refl
+  where
+    by : (t : Bool) → eqb (length x) (length y) ≡ t → packedBy plus x y c out ≡ packedBy plus y x c out
+    by false e = let n = eqb-false (length x) (length y) e in
+        sym (refuses plus x y c out (sym (differ x y (length out) n))) ∙ refuses plus y x c out (sym (differ y x (length out) (λ d. n (sym d))))
+    by true e =
+        let l = eqb-true (length x) (length y) e in
+        λ i. leftBy (cond (not (eqb (l i) (sym l i))) (Refused LengthsDiffer) (cond (not (between 1 32 (l i))) (Refused Length) (cond (not (and-comm (allPacked x) (allPacked y) i)) (Refused Digit) (cond (ltb (length out) (l i)) (Refused Room) Admitted)))) (either-order x y c l i) out
+
 undone : (subtract : Bool) (m x y : ℕ) (c : Bool) → x < m → y < m
     → operationOf (not subtract) m (operationOf subtract m x y c .number) y c ≡ worked x (operationOf subtract m x y c .carry)
 undone false m x y c hx hy =
-    let made = plus m x y c in difference-is m (made .number) y c x (made .carry) hx (omega (arith, sum-of m x y c hx hy))
+    let made = plus m x y c in difference-is m (made .number) y c x (made .carry) hx (omega (arith, carried m (x + y + bit c) (omega (arith, bit-le c))))
 undone true m x y c hx hy =
-    let made = minus m x y c in sum-is m (made .number) y c x (made .carry) hx (omega (arith, difference-of m x y c hx hy))
+    let made = minus m x y c in sum-is m (made .number) y c x (made .carry) hx (omega (arith, borrowed m x (y + bit c) hx (omega (arith, bit-le c))))
 
 -- what was added, subtracted again with the carry in as the borrow in, gives the number back, and the borrow out is the carry out; and what was
 -- subtracted, added again
@@ -117,7 +119,7 @@ unfolding stringBy
 taken-back subtract x y c hx hy l =
     let m = 10 ^ (2 * length x) in
     let made = stringBy (operationOf subtract) x y c in
-    let size = string-length (by-parts subtract) x y c in
+    let size = string-length (operationOf subtract) x y c in
     let under : numberOf y < m = rw l (number-below y hy) in
     result-is (operationOf (not subtract)) (made .bytes) y c (made .carry) x size hx
     ((λ i. operationOf (not subtract) (10 ^ (2 * size i)) (result-number subtract x y c i) (numberOf y) c)

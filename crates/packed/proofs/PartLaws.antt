@@ -8,6 +8,7 @@ use lib.Arith.{mod-mul}
 use lib.Dec.{leb, ltb, lit<}
 use borrow.Author.Tests.{leb-true, leb-false, le-leb, lt-leb, ltb-true, ltb-false, lt-ltb, le-ltb}
 use Rattle.flags.specs.Numbers.{bit}
+use Rattle.flags.proofs.Powers.{rest-small, rest-large}
 use Rattle.flags.proofs.SignedLaws.{same-test}
 use Rattle.flags.proofs.WordLaws.{bit-le}
 use Rattle.packed.specs.Sum.{Worked, Operation, plus, minus, operationOf}
@@ -28,20 +29,20 @@ number-above : (m t : ℕ) {two rest : ℕ} → 0 < m → t % 100 ≡ two → t 
 number-above m t h e d = mod-mul t h (lit< tt) ∙ (λ i. (d i % m) * 100 + e i) ∙ omega arith
 
 -- a carry out of numbers below m is one m of their sum
-pub carried : (m s : ℕ) → s < m + m → (bit (leb m s) * m ≤ s) × (s < bit (leb m s) * m + m)
+pub carried : (m s : ℕ) → s < m + m → s % m + bit (leb m s) * m ≡ s
 carried m s h = by (leb m s) refl
   where
-    by : (k : Bool) → leb m s ≡ k → (bit k * m ≤ s) × (s < bit k * m + m)
-    by true e = let t = leb-true m s e in omega arith
-    by false e = let t = leb-false m s e in omega arith
+    by : (k : Bool) → leb m s ≡ k → s % m + bit k * m ≡ s
+    by true e = omega (arith, rest-large s m h (leb-true m s e))
+    by false e = omega (arith, rest-small s m (leb-false m s e))
 
 -- and a borrow one m that is lent
-pub borrowed : (m a t : ℕ) → a < m → t ≤ m → (t ≤ a + bit (ltb a t) * m) × (a + bit (ltb a t) * m < t + m)
+pub borrowed : (m a t : ℕ) → a < m → t ≤ m → (m + a - t) % m + t ≡ a + bit (ltb a t) * m
 borrowed m a t ha ht = by (ltb a t) refl
   where
-    by : (k : Bool) → ltb a t ≡ k → (t ≤ a + bit k * m) × (a + bit k * m < t + m)
-    by true e = let l = ltb-true a t e in omega arith
-    by false e = let l = ltb-false a t e in omega arith
+    by : (k : Bool) → ltb a t ≡ k → (m + a - t) % m + t ≡ a + bit k * m
+    by true e = let l = ltb-true a t e in omega (arith, rest-small (m + a - t) m (omega arith))
+    by false e = let l = ltb-false a t e in omega (arith, rest-large (m + a - t) m (omega arith) (omega arith))
 
 module _ (m a b x y : ℕ) (c : Bool) (ha : a < 100) (hb : b < 100) (hy : y < m) where
   sum-parts : plus (m * 100) (a + x * 100) (b + y * 100) c ≡ above (plus 100 a b c) (plus m x y (leb 100 (a + b + bit c)))

@@ -9,14 +9,14 @@ use lib.Dec.{lit<}
 use Rattle.packed.specs.Digits.{isPacked, allPacked, twoDigits, byteOf, numberOf, bytesOf}
 use Rattle.packed.specs.Sum.{Operation}
 use Rattle.packed.specs.Byte.{byteBy}
-use Rattle.packed.specs.Halves.{before}
-use Rattle.packed.specs.Packed.{Strung, strung, stringBy}
+use Rattle.packed.specs.Packed.{Strung, strung, behind, stringBy}
 use Rattle.packed.proofs.DigitLaws.{two-below, all-cons, all-append, hundredfold, number-below, length-bytes}
 use Rattle.packed.proofs.PartLaws.{ByParts, above}
 
--- bytes with others before them
-abbrev pub behind : List ℕ → Strung → Strung
-behind bytes rest = strung (bytes ++ rest .bytes) (rest .carry)
+-- as many bytes as the operands have
+pub string-length : (op : Operation) (x y : List ℕ) (c : Bool) → length (stringBy op x y c .bytes) ≡ length x
+unfolding stringBy
+string-length op x y c = length-bytes (length x) (op (10 ^ (2 * length x)) (numberOf x) (numberOf y) c .number)
 
 module _ {op : Operation} (by : ByParts op) where
   -- of nothing the carry comes out as it went in
@@ -26,7 +26,7 @@ module _ {op : Operation} (by : ByParts op) where
 
   -- the last two digits' byte, and then the string of the rest with its carry
   pub string-cons : (x y : ℕ) (xs ys : List ℕ) (c : Bool) → isPacked x ≡ true → isPacked y ≡ true → allPacked ys ≡ true → length xs ≡ length ys
-      → stringBy op (x ∷ xs) (y ∷ ys) c ≡ before (byteBy op x y c .byte) (stringBy op xs ys (byteBy op x y c .carry))
+      → stringBy op (x ∷ xs) (y ∷ ys) c ≡ behind (byteBy op x y c .byte ∷ []) (stringBy op xs ys (byteBy op x y c .carry))
   unfolding stringBy numberOf bytesOf
   string-cons x y xs ys c hx hy hs l =
       let m = 10 ^ (2 * length xs) in
@@ -54,9 +54,4 @@ module _ {op : Operation} (by : ByParts op) where
       let made = byteBy op a b c in
       let first = string-cons a b (x ++ xs) (y ++ ys) c (px .0) (py .0) (all-append y ys (py .1) hs) (simp length-append (omega arith)) in
       let lower = string-cons a b x y c (px .0) (py .0) (py .1) (omega arith) in
-      first ∙ ap (before (made .byte)) (string-cut x y xs ys (made .carry) (px .1) (py .1) hs (omega arith) r) ∙ ap (λ (s : Strung). behind (s .bytes) (stringBy op xs ys (s .carry))) (sym lower)
-
-  -- as many bytes as the operands have
-  pub string-length : (x y : List ℕ) (c : Bool) → length (stringBy op x y c .bytes) ≡ length x
-  unfolding stringBy
-  string-length x y c = length-bytes (length x) (op (10 ^ (2 * length x)) (numberOf x) (numberOf y) c .number)
+      first ∙ ap (behind (made .byte ∷ [])) (string-cut x y xs ys (made .carry) (px .1) (py .1) hs (omega arith) r) ∙ ap (λ (s : Strung). behind (s .bytes) (stringBy op xs ys (s .carry))) (sym lower)

@@ -5,11 +5,11 @@ use mathlib.Core.List.{List}
 use Prim.Native.Nat.{ℕ}
 use Rattle.packed.specs.Sum.{Operation}
 use Rattle.packed.specs.Packed.{left, packedBy}
-use Rattle.packed.specs.Told.{statusOf, carryIn, told, toldBy}
+use Rattle.packed.specs.Told.{statusOf, carryLeft, told, toldBy}
 use Rattle.packed.specs.declared.string.Outcome.{Outcome}
 
 pub tells : (op : Operation) (x y : List ℕ) (c : Bool) (out : List ℕ) (was : ℕ) {outcome : Outcome} {buffer : List ℕ} {status carry : ℕ}
-    → left outcome buffer ≡ packedBy op x y c out → status ≡ statusOf outcome → carry ≡ carryIn outcome was
+    → left outcome buffer ≡ packedBy op x y c out → status ≡ statusOf outcome → carry ≡ carryLeft outcome was
     → told status buffer carry ≡ toldBy op x y c out was
 tells op x y c out was {outcome} {buffer} e s k =
-    (λ i. told (s i) buffer (k i)) ∙ (λ i. told (statusOf (e i .outcome)) (e i .buffer) (carryIn (e i .outcome) was))
+    (λ i. told (s i) buffer (k i)) ∙ (λ i. told (statusOf (e i .outcome)) (e i .buffer) (carryLeft (e i .outcome) was))

@@ -14,7 +14,7 @@ abbrev pub byteBy : Operation → ℕ → ℕ → Bool → Byte
 byteBy op x y c =
     let worked = op 100 (twoDigits x) (twoDigits y) c in record { byte = byteOf (worked .number); carry = worked .carry }
 
--- the flags that ADC or SBB leaves for the adjust, which sets the four that are not theirs to hand on
+-- C, O and A as ADC or SBB left them. The adjust reads A and C alone, and sets all six
 abbrev pub flagsAfter : ResultCoa8 → Flags
 flagsAfter made =
     record {

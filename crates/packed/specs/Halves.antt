@@ -1,14 +1,22 @@
 -- How a string is worked out: each byte is made for either carry into it, and the carry that comes chooses. Assumes nothing.
 use mathlib.Core.Path.{_≡_}
-use mathlib.Core.Bool.{Bool, not}
+use mathlib.Core.Bool.{Bool, true, not}
 use mathlib.Core.List.{List, [], _∷_, _++_}
 use Prim.Native.Nat.{ℕ, zero, suc, _+_, _*_, _≤_, _<_}
 use lib.Dec.{eqb}
 use lib.ListN.{length, getD}
 use Rattle.flags.specs.Numbers.{bit}
+use Rattle.packed.specs.Digits.{allPacked}
 use Rattle.packed.specs.Sum.{Operation}
-use Rattle.packed.specs.Packed.{Strung, strung}
+use Rattle.packed.specs.Packed.{Strung, strung, behind}
 use Rattle.packed.specs.Byte.{byteBy}
+
+-- operands that are worked out: of one length, at most 32, and digits all of them
+pub record Operands (x y : List ℕ) : Type 0 where
+  pub alike : length x ≡ length y
+  pub few : length x ≤ 32
+  pub packedX : allPacked x ≡ true
+  pub packedY : allPacked y ≡ true
 
 -- where the half that a carry chooses begins
 abbrev pub halfOf : Bool → ℕ
@@ -30,14 +38,10 @@ pub record Made (op : Operation) (x y : List ℕ) (n : ℕ) (bytes halves : List
   pub halfAt : InHalves (λ c i. halfOf (byteBy op (getD x i 0) (getD y i 0) c .carry)) n halves
   pub space : WorkSpace bytes halves
 
--- a byte before others
-abbrev pub before : ℕ → Strung → Strung
-before b rest = strung (b ∷ rest .bytes) (rest .carry)
-
 -- so many bytes from place i on, beginning in this half; out of the last comes a carry if the half that it names is not the first
 unfoldable pub chosen : List ℕ → List ℕ → ℕ → ℕ → ℕ → Strung
 chosen bytes halves zero i half = strung [] (not (eqb half 0))
-chosen bytes halves (suc n) i half = before (getD bytes (half + i) 0) (chosen bytes halves n (suc i) (getD halves (half + i) 0))
+chosen bytes halves (suc n) i half = behind (getD bytes (half + i) 0 ∷ []) (chosen bytes halves n (suc i) (getD halves (half + i) 0))
 
 -- bytes with others after them
 abbrev pub onto : Strung → List ℕ → Strung

@@ -1,8 +1,7 @@
 -- What is refused, and the numbers of the refusals. Assumes nothing.
-use mathlib.Core.Path.{_≡_}
-use mathlib.Core.Bool.{true, cond, not, _&&_}
+use mathlib.Core.Bool.{cond, not, _&&_}
 use mathlib.Core.List.{List}
-use Prim.Native.Nat.{ℕ, _≤_}
+use Prim.Native.Nat.{ℕ}
 use lib.Dec.{ltb, eqb}
 use lib.ListN.{length}
 use Rattle.flags.specs.Numbers.{between}
@@ -21,13 +20,6 @@ judged x y room =
     (cond (not (between 1 32 (length x)))
     (Refused Length)
     (cond (not (allPacked x && allPacked y)) (Refused Digit) (cond (ltb room (length x)) (Refused Room) Admitted)))
-
--- what operands are that none of the first three refuses
-pub record Operands (x y : List ℕ) : Type 0 where
-  pub alike : length x ≡ length y
-  pub few : length x ≤ 32
-  pub packedX : allPacked x ≡ true
-  pub packedY : allPacked y ≡ true
 
 -- the number of each
 abbrev pub refusalStatus : Refusal → ℕ

@@ -20,6 +20,10 @@ pub record Strung : Type 0 where
 abbrev pub strung : List ℕ → Bool → Strung
 strung bytes carry = record { bytes = bytes; carry = carry }
 
+-- bytes with others before them
+abbrev pub behind : List ℕ → Strung → Strung
+behind bytes rest = strung (bytes ++ rest .bytes) (rest .carry)
+
 -- the operation on the numbers of 2 l digits that the operands, of l bytes each, stand for
 unfoldable pub stringBy : Operation → List ℕ → List ℕ → Bool → Strung
 stringBy op x y c =

@@ -13,7 +13,7 @@ pub record Worked : Type 0 where
 abbrev pub Operation : Type 0
 Operation = ℕ → ℕ → ℕ → Bool → Worked
 
--- the sum mod m; the carry is that it is at least m
+-- the sum mod m; the carry is that the sum is at least m
 abbrev pub plus : Operation
 plus m x y c = record { number = (x + y + bit c) % m; carry = leb m (x + y + bit c) }
 
@@ -21,7 +21,7 @@ plus m x y c = record { number = (x + y + bit c) % m; carry = leb m (x + y + bit
 abbrev pub minus : Operation
 minus m x y c = record { number = (m + x - (y + bit c)) % m; carry = ltb x (y + bit c) }
 
--- which of the two
+-- subtraction, or where it is false addition
 abbrev pub operationOf : Bool → Operation
 operationOf false = plus
 operationOf true = minus

@@ -15,9 +15,9 @@ statusOf (Done carry) = 0
 statusOf (Refused why) = refusalStatus why
 
 -- what the byte for the carry or borrow holds; a refusal leaves it as it was
-abbrev pub carryIn : Outcome → ℕ → ℕ
-carryIn (Done carry) was = bit carry
-carryIn (Refused why) was = was
+abbrev pub carryLeft : Outcome → ℕ → ℕ
+carryLeft (Done carry) was = bit carry
+carryLeft (Refused why) was = was
 
 -- the status, and what is left in the buffer and in that byte
 pub record Told : Type 0 where
@@ -32,4 +32,4 @@ told status buffer carry = record { status = status; buffer = buffer; carry = ca
 -- of an operation on packed strings
 abbrev pub toldBy : Operation → List ℕ → List ℕ → Bool → List ℕ → ℕ → Told
 toldBy op x y c out was =
-    let done = packedBy op x y c out in told (statusOf (done .outcome)) (done .buffer) (carryIn (done .outcome) was)
+    let done = packedBy op x y c out in told (statusOf (done .outcome)) (done .buffer) (carryLeft (done .outcome) was)

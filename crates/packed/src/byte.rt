@@ -18,7 +18,7 @@ pub struct Byte {
     pub carry: bool,
 }
 
-// What ADC or SBB leaves in the flags. The adjust reads A and C and sets the other four.
+// C, O and A as ADC or SBB left them. The adjust reads A and C alone, and sets all six.
 fn flags_after(made: ResultCoa8) -> Flags
     ensures { λ r. ⌜ r ≡ flagsAfter made ⌝ }
 {

@@ -20,7 +20,7 @@ pub enum Judged {
 }
 
 // The longest string, in bytes.
-pub const LONGEST: usize = 32;
+const LONGEST: usize = 32;
 
 fn is_length(size: usize) -> bool
     ensures { λ r. ⌜ r ≡ between 1 32 size ⌝ }

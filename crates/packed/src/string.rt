@@ -3,9 +3,9 @@ ghost use mathlib.Core.Path.{_≡_};
 ghost use Prim.Native.Nat.{_≤_};
 ghost use lib.ListN.{length, drop};
 ghost use Rattle.packed.specs.Sum.{plus, minus, operationOf};
-ghost use Rattle.packed.specs.Judge.{Operands, judged};
+ghost use Rattle.packed.specs.Judge.{judged};
 ghost use Rattle.packed.specs.Packed.{strung, left, packedBy};
-ghost use Rattle.packed.specs.Halves.{halfOf, WorkSpace, Made, chosen, onto};
+ghost use Rattle.packed.specs.Halves.{Operands, halfOf, WorkSpace, Made, chosen, onto};
 use crate::byte;
 use crate::judge;
 use crate::judge::Judged;
@@ -67,7 +67,8 @@ fn work(subtract: bool, x: &[u8], y: &[u8], carry: bool, out: &mut [u8]) -> bool
     choose(&bytes, &halves, x.len(), carry, out)
 }
 
-// The sum goes into `out`; bytes past the operands' length stay as they were.
+// The sum goes into `out`; bytes past the operands' length stay as they were. The choice stands here and in
+// `subtract`, so that each is compiled for its own operation.
 pub fn add(x: &[u8], y: &[u8], carry: bool, out: &mut [u8]) -> Outcome
     ensures { λ r. ⌜ left r (now (out .exit)) ≡ packedBy plus (now (x .entry)) (now (y .entry)) carry (now (out .entry)) ⌝ }
 {

@@ -25,7 +25,7 @@ loop-holds c =
     let entry = c .before .before .before .before .before in
     (omega arith, none-made (operationOf (entry .args .subtract)) (entry .args .x .now) (entry .args .y .now) (entry .pre .1))
 
--- where the loop is, and where it was entered
+-- the two bytes of this turn are packed digits
 abbrev digits : (c : tie.In-loop Inv-loop μ-loop) → (isPacked (getD (c .before .before .before .before .before .before .before .args .x .now) (c .before .loop .i) 0) ≡ true) × (isPacked (getD (c .before .before .before .before .before .before .before .args .y .now) (c .before .loop .i) 0) ≡ true)
 digits c =
     let entry = c .before .before .before .before .before .before .before in
