@@ -22,8 +22,9 @@
 //! # Ok::<(), packed::Refusal>(())
 //! ```
 //!
-//! Numbers of more than [`LONGEST`] bytes are added in pieces, the lowest first, and the carry is
-//! passed on; the last one is that of the whole. Where a piece is refused those before it are written:
+//! Numbers of more than [`LONGEST`] bytes are added or subtracted in pieces, the lowest first, each with
+//! the carry or borrow out of the one before it; that of the last piece is that of the whole. Where a
+//! piece is refused those before it are written:
 //!
 //! ```
 //! use hatchyarn::packed::{self, Refusal, LONGEST};
@@ -31,6 +32,9 @@
 //! fn add_long(x: &[u8], y: &[u8], out: &mut [u8]) -> Result<bool, Refusal> {
 //!     if x.len() != y.len() {
 //!         return Err(Refusal::LengthsDiffer);
+//!     }
+//!     if x.is_empty() {
+//!         return Err(Refusal::Length);
 //!     }
 //!     if out.len() < x.len() {
 //!         return Err(Refusal::Room);
