@@ -57,7 +57,7 @@ fn choose(bytes: &[u8], halves: &[u8], size: usize, carry: bool, out: &mut [u8])
     half != 0
 }
 
-fn work(subtract: bool, x: &[u8], y: &[u8], carry: bool, out: &mut [u8]) -> bool
+fn work_string(subtract: bool, x: &[u8], y: &[u8], carry: bool, out: &mut [u8]) -> bool
     requires { ⌜ judged (now x) (now y) (length (now out)) ≡ Judged.Admitted ⌝ }
     ensures { λ r. ⌜ left (Outcome.Done r) (now (out .exit)) ≡ packedBy (operationOf subtract) (now (x .entry)) (now (y .entry)) carry (now (out .entry)) ⌝ }
 {
@@ -73,7 +73,7 @@ pub fn add(x: &[u8], y: &[u8], carry: bool, out: &mut [u8]) -> Outcome
     ensures { λ r. ⌜ left r (now (out .exit)) ≡ packedBy plus (now (x .entry)) (now (y .entry)) carry (now (out .entry)) ⌝ }
 {
     match judge::judge(x, y, out.len()) {
-        Judged::Admitted => Outcome::Done(work(false, x, y, carry, out)),
+        Judged::Admitted => Outcome::Done(work_string(false, x, y, carry, out)),
         Judged::Refused(why) => Outcome::Refused(why),
     }
 }
@@ -83,7 +83,7 @@ pub fn subtract(x: &[u8], y: &[u8], borrow: bool, out: &mut [u8]) -> Outcome
     ensures { λ r. ⌜ left r (now (out .exit)) ≡ packedBy minus (now (x .entry)) (now (y .entry)) borrow (now (out .entry)) ⌝ }
 {
     match judge::judge(x, y, out.len()) {
-        Judged::Admitted => Outcome::Done(work(true, x, y, borrow, out)),
+        Judged::Admitted => Outcome::Done(work_string(true, x, y, borrow, out)),
         Judged::Refused(why) => Outcome::Refused(why),
     }
 }

@@ -6,8 +6,8 @@ use Rattle.packed.proofs.JudgeLaws.{refuses}
 use Rattle.packed.proofs.string.add.Statement.{statement}
 use Rattle.packed.proofs.string.add.Tie as tie
 
-work-requires : tie.Need-work-requires
-work-requires c κs = let told = c .before in sym (told .before .before .judge .ensures) ∙ told .enum-told .given .1
+work-string-requires : tie.Need-work-string-requires
+work-string-requires c κs = let told = c .before in sym (told .before .before .judge .ensures) ∙ told .enum-told .given .1
 
 returns-2 : tie.Need-returns-2
 returns-2 c =
@@ -16,4 +16,4 @@ returns-2 c =
     refuses plus (entry .args .x .now) (entry .args .y .now) (entry .args .carry) (entry .args .out .now) (sym (judged .judge .ensures) ∙ c .before .why .given .1)
 
 pub add-spec : {M : Type 1} → statement M
-add-spec = tie.close (tie.spec (λ c κs. search needs) (λ c. search needs) work-requires (λ c. search needs) (λ c. search needs) (λ c. search needs) returns-2)
+add-spec = tie.close (tie.spec (λ c κs. search needs) (λ c. search needs) work-string-requires (λ c. search needs) (λ c. search needs) (λ c. search needs) returns-2)

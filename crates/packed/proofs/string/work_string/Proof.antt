@@ -1,9 +1,9 @@
--- `packed::string::work` meets its contract: what is chosen of the bytes made for either carry is the string. Assumes nothing.
+-- `packed::string::work_string` meets its contract: what is chosen of the bytes made for either carry is the string. Assumes nothing.
 use borrow.Author.Needs.{needs}
 use Rattle.packed.proofs.JudgeLaws.{admitted}
 use Rattle.packed.proofs.HalvesLaws.{fresh, work-done}
-use Rattle.packed.proofs.string.work.Statement.{statement}
-use Rattle.packed.proofs.string.work.Tie as tie
+use Rattle.packed.proofs.string.work_string.Statement.{statement}
+use Rattle.packed.proofs.string.work_string.Tie as tie
 
 make-both-requires : tie.Need-make-both-requires
 make-both-requires c κs = (admitted _ _ _ (c .before .before .before .before .before .pre) .0, fresh)
@@ -23,5 +23,5 @@ returns c =
     let entry = both .before .before .before .before .before .before in
     work-done (entry .args .subtract) (entry .args .x .now) (entry .args .y .now) (admitted _ _ _ (entry .pre) .0) (both .make-both .ensures) (entry .args .carry) (entry .args .out .now) (entry .pre) (choice .choose .ensures)
 
-pub work-spec : {M : Type 1} → statement M
-work-spec = tie.close (tie.spec (λ c. search needs) (λ c. search needs) make-both-requires (λ c. search needs) (λ c. search needs) choose-requires (λ c. search needs) returns)
+pub work-string-spec : {M : Type 1} → statement M
+work-string-spec = tie.close (tie.spec (λ c. search needs) (λ c. search needs) make-both-requires (λ c. search needs) (λ c. search needs) choose-requires (λ c. search needs) returns)
