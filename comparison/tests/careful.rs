@@ -5,6 +5,7 @@ use comparison::asked::Asked;
 use comparison::form::Form;
 use comparison::lines::model::Model;
 use comparison::packed::careful as packed;
+use comparison::packed::{loan, tabled};
 use comparison::sides::{ours, theirs};
 use comparison::tally::Tally;
 use comparison::{careful, filter, plan};
@@ -88,12 +89,10 @@ fn filter_answers_as_the_model() {
     assert_eq!(filtered(&b""[..]), b"");
 }
 
-/// It stands in place of the port in all sections of packed digits.
-#[test]
-fn packed_digits_are_as_in_the_reference() {
+/// Stands in place of the port in all sections of packed digits.
+fn hold_packed(side: loan::Side) {
     let sections = plan::sections(QUICK).into_iter();
-    let tally =
-        Tally::new(ours).with_packed(|call, loan| loan.call(call, [packed::add, packed::subtract]));
+    let tally = Tally::new(ours).with_packed(side);
     let of_packed = sections.filter(|section| section.name.starts_with("packed, "));
     let held: Vec<Tally> = of_packed.map(|section| section.run(1, &tally)).collect();
     assert_eq!(held.len(), 6);
@@ -101,4 +100,14 @@ fn packed_digits_are_as_in_the_reference() {
         assert!(held.compared > 10_000);
         assert_eq!(held.differing, 0, "{:?}", held.shown);
     }
+}
+
+#[test]
+fn packed_digits_in_one_pass_are_as_in_the_reference() {
+    hold_packed(|call, loan| loan.call(call, [packed::add, packed::subtract]));
+}
+
+#[test]
+fn packed_digits_by_a_table_are_as_in_the_reference() {
+    hold_packed(|call, loan| loan.call(call, [tabled::add, tabled::subtract]));
 }

@@ -1,4 +1,5 @@
-//! Packed digits, one call at a time: the port's functions beside a careful loop for the same promise.
+//! Packed digits, one call at a time: the port's functions beside a careful loop for the same promise, and
+//! beside one that is written for speed.
 
 use super::drawn::INPUTS;
 use super::table::{self, Row};
@@ -6,6 +7,7 @@ use crate::packed::call::{Call, Operation};
 use crate::packed::careful;
 use crate::packed::reference::LONGEST;
 use crate::packed::strings::any;
+use crate::packed::tabled;
 use hatchyarn::raw;
 use oracle::draw::Draw;
 use std::hint::black_box;
@@ -18,19 +20,32 @@ trait Timed: Fn(&[u8], &[u8], bool, &mut [u8], &mut u8) -> u8 {}
 
 impl<F: Fn(&[u8], &[u8], bool, &mut [u8], &mut u8) -> u8> Timed for F {}
 
-/// Prints the table. An error says where the two sides differ.
+/// Prints the two tables. An error says where two sides differ.
 pub fn print() -> Result<(), String> {
+    print_beside("plain Rust, one pass", beside_careful)?;
+    println!();
+    print_beside("plain Rust, two passes and a table", beside_tabled)
+}
+
+fn print_beside(theirs: &str, row: impl Fn(Inputs) -> Row) -> Result<(), String> {
     let of_sizes = |operation| SIZES.map(|bytes| (operation, bytes));
     let rows = Operation::ALL.into_iter().flat_map(of_sizes);
     let rows = rows.map(|(operation, bytes)| row(Inputs::draw(operation, bytes)));
     let inputs = "each digit as likely as another";
-    table::print_sides(inputs, ["bytes", "plain Rust"], rows)
+    table::print_sides(inputs, ["bytes", theirs], rows)
 }
 
-fn row(inputs: Inputs) -> Row {
+fn beside_careful(inputs: Inputs) -> Row {
     match inputs.operation {
         Operation::Add => inputs.row(raw::packed_add, careful::add),
         Operation::Subtract => inputs.row(raw::packed_subtract, careful::subtract),
+    }
+}
+
+fn beside_tabled(inputs: Inputs) -> Row {
+    match inputs.operation {
+        Operation::Add => inputs.row(raw::packed_add, tabled::add),
+        Operation::Subtract => inputs.row(raw::packed_subtract, tabled::subtract),
     }
 }
 

@@ -9,3 +9,4 @@ pub mod reference;
 pub mod runs;
 pub mod sections;
 pub mod strings;
+pub mod tabled;
