@@ -205,6 +205,64 @@ uint8_t hatchyarn_packed_add(const uint8_t *x, size_t x_length, const uint8_t *y
 uint8_t hatchyarn_packed_subtract(const uint8_t *x, size_t x_length, const uint8_t *y, size_t y_length,
                                   bool borrow, uint8_t *out, size_t room, uint8_t *borrow_out);
 
+/*
+ * How an answer line was read back. 30 to 34 are tested in this order; the first that applies is given.
+ * These are what the two functions below return, and not the status that stands in the line.
+ */
+enum hatchyarn_read_status {
+    HATCHYARN_READ_DONE = 0,        /* read as below */
+    HATCHYARN_READ_BAD_LENGTH = 30, /* the line is not 18 bytes long */
+    HATCHYARN_READ_BAD_DIGIT = 31,  /* a byte of the line is no hexadecimal digit */
+    HATCHYARN_READ_BAD_STATUS = 32, /* the status is not 0 to 6, 8 or 9 */
+    HATCHYARN_READ_BAD_FLAGS = 33,  /* a bit of the flags word is no flag */
+    HATCHYARN_READ_NOT_ZERO = 34,   /* the status is 1 to 5, and the rest is not all 0; or it is 6, 8 or 9,
+                                       and r or s is not 0 */
+    HATCHYARN_READ_END = 255        /* there is no line left */
+};
+
+/* What an answer line holds: numbers for which none of 30 to 34 applies. */
+struct hatchyarn_record {
+    uint16_t status; /* one of hatchyarn_status but HATCHYARN_NO_ROOM; it fits in a uint8_t */
+    uint16_t flags;  /* the sum of bits of hatchyarn_flag */
+    uint16_t steps;  /* as they stand in the line: but for HATCHYARN_READ_NOT_ZERO they are not judged */
+    uint16_t r;      /* as in hatchyarn_answer */
+    uint16_t s;      /* as in hatchyarn_answer; this is not the flag S */
+};
+
+/*
+ * Reads one answer line of `length` bytes, given without its line feed, in capitals or small letters.
+ * Returns HATCHYARN_READ_DONE with the line's numbers in *record, or 30 to 34 with *record as it was.
+ */
+uint8_t hatchyarn_read_answer(const uint8_t *line, size_t length, struct hatchyarn_record *record);
+
+/*
+ * Reads the next answer line of a text of `length` bytes, the one that starts at *place. A line ends at a
+ * line feed, and a last one may lack it. Returns
+ *
+ *   HATCHYARN_READ_DONE   with the line's numbers in *record;
+ *   30 to 34              with *record as it was: the line cannot be read;
+ *   HATCHYARN_READ_END    with everything as it was: *place is at the end of the text, or past it.
+ *
+ * After a line, read or not, *start is the byte where it starts and *place is past it, its line feed
+ * included. So a caller starts with a place of 0 and calls until the end. A text takes as many calls as it
+ * has lines, and one more:
+ *
+ *     struct hatchyarn_record record;
+ *     size_t place = 0, start;
+ *     uint8_t status;
+ *
+ *     while ((status = hatchyarn_next_answer(text, length, &place, &record, &start)) != HATCHYARN_READ_END)
+ *         if (status == HATCHYARN_READ_DONE)
+ *             use(&record);
+ *         else
+ *             refuse(start, status);
+ *
+ * `place`, `record` and `start` must always lead to something. The three must be apart, and must not
+ * overlap the text. examples/differ.c, in the sources, holds the answers of two days to each other.
+ */
+uint8_t hatchyarn_next_answer(const uint8_t *text, size_t length, size_t *place,
+                              struct hatchyarn_record *record, size_t *start);
+
 #ifdef __cplusplus
 }
 #endif

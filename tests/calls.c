@@ -4,6 +4,7 @@
 #include <string.h>
 
 _Static_assert(sizeof(struct hatchyarn_answer) == 8, "the library writes four 16-bit numbers");
+_Static_assert(sizeof(struct hatchyarn_record) == 10, "the library writes five 16-bit numbers");
 
 static int failed;
 
@@ -211,6 +212,205 @@ static void packed_refusals(void)
     refuses(hexadecimal, 32, zeros, 32, 31, HATCHYARN_PACKED_BAD_DIGIT, "a digit, no room");
 }
 
+/* Answer lines and how each is read: into these numbers, or refused. */
+static const struct written {
+    const char *line;
+    uint8_t status;
+    struct hatchyarn_record record;
+} written[] = {
+    {"000001005100030001", HATCHYARN_READ_DONE, {0, 0x0001, 81, 3, 1}},
+    {"0008D5FFFFABCDEF98", HATCHYARN_READ_DONE, {0, 0x08D5, 0xFFFF, 0xABCD, 0xEF98}},
+    {"0008d5ffffaBcDeF98", HATCHYARN_READ_DONE, {0, 0x08D5, 0xFFFF, 0xABCD, 0xEF98}},
+    {"010000000000000000", HATCHYARN_READ_DONE, {HATCHYARN_BAD_LENGTH, 0, 0, 0, 0}},
+    {"020000000000000000", HATCHYARN_READ_DONE, {HATCHYARN_BAD_DIGIT, 0, 0, 0, 0}},
+    {"030000000000000000", HATCHYARN_READ_DONE, {HATCHYARN_BAD_OP, 0, 0, 0, 0}},
+    {"040000000000000000", HATCHYARN_READ_DONE, {HATCHYARN_BAD_MODE, 0, 0, 0, 0}},
+    {"050000000000000000", HATCHYARN_READ_DONE, {HATCHYARN_TOO_LARGE, 0, 0, 0, 0}},
+    {"060044000900000000", HATCHYARN_READ_DONE, {HATCHYARN_ZERO_DIVISOR, 0x0044, 9, 0, 0}},
+    {"080810001700000000", HATCHYARN_READ_DONE, {HATCHYARN_TOO_WIDE, 0x0810, 23, 0, 0}},
+    {"0908D5FFFF00000000", HATCHYARN_READ_DONE, {HATCHYARN_SIGN_RANGE, 0x08D5, 0xFFFF, 0, 0}},
+
+    {"0", HATCHYARN_READ_BAD_LENGTH, {0}},
+    {"00000100510003000", HATCHYARN_READ_BAD_LENGTH, {0}},
+    {"000001005100030001\r", HATCHYARN_READ_BAD_LENGTH, {0}},
+    {"G00001005100030001", HATCHYARN_READ_BAD_DIGIT, {0}},
+    {"00000100510003000g", HATCHYARN_READ_BAD_DIGIT, {0}},
+    {"000001/05100030001", HATCHYARN_READ_BAD_DIGIT, {0}},
+    {"000001:05100030001", HATCHYARN_READ_BAD_DIGIT, {0}},
+    {"000001@05100030001", HATCHYARN_READ_BAD_DIGIT, {0}},
+    {"000001`05100030001", HATCHYARN_READ_BAD_DIGIT, {0}},
+    {"000001\37705100030001", HATCHYARN_READ_BAD_DIGIT, {0}},
+    {"070000000000000000", HATCHYARN_READ_BAD_STATUS, {0}},
+    {"0A0000000000000000", HATCHYARN_READ_BAD_STATUS, {0}},
+    {"100000000000000000", HATCHYARN_READ_BAD_STATUS, {0}},
+    {"FF0000000000000000", HATCHYARN_READ_BAD_STATUS, {0}},
+    {"000002000000000000", HATCHYARN_READ_BAD_FLAGS, {0}},
+    {"09F72A000000000000", HATCHYARN_READ_BAD_FLAGS, {0}},
+    {"010001000000000000", HATCHYARN_READ_NOT_ZERO, {0}},
+    {"020000000100000000", HATCHYARN_READ_NOT_ZERO, {0}},
+    {"030000000010000000", HATCHYARN_READ_NOT_ZERO, {0}},
+    {"050000000000000001", HATCHYARN_READ_NOT_ZERO, {0}},
+    {"060044000900010000", HATCHYARN_READ_NOT_ZERO, {0}},
+    {"080044000900001000", HATCHYARN_READ_NOT_ZERO, {0}},
+    {"090044000980000001", HATCHYARN_READ_NOT_ZERO, {0}},
+
+    /* each with all later ones beside it */
+    {"07F72A00010001000G0", HATCHYARN_READ_BAD_LENGTH, {0}},
+    {"07F72A00010001000G", HATCHYARN_READ_BAD_DIGIT, {0}},
+    {"07F72A000100010001", HATCHYARN_READ_BAD_STATUS, {0}},
+    {"05F72A000100010001", HATCHYARN_READ_BAD_FLAGS, {0}},
+};
+enum { WRITTEN = sizeof written / sizeof *written };
+
+/* What is lent to a reader, with numbers around each that must stay. */
+struct lent {
+    size_t before, place, between, start, after;
+    struct hatchyarn_record left, record, right;
+};
+
+static const struct hatchyarn_record nothing_read = {0xA5A5, 0xA5A5, 0xA5A5, 0xA5A5, 0xA5A5};
+
+static struct lent lend(size_t place)
+{
+    return (struct lent){99, place, 99, 99, 99, nothing_read, nothing_read, nothing_read};
+}
+
+static bool alike(const struct hatchyarn_record *x, const struct hatchyarn_record *y)
+{
+    return x->status == y->status && x->flags == y->flags && x->steps == y->steps && x->r == y->r && x->s == y->s;
+}
+
+/* Whether the place, the start and the record are these, and all around them is as it was. */
+static bool holds(const struct lent *lent, size_t place, size_t start, const struct hatchyarn_record *record)
+{
+    return lent->place == place && lent->start == start && alike(&lent->record, record) && lent->before == 99
+           && lent->between == 99 && lent->after == 99 && alike(&lent->left, &nothing_read)
+           && alike(&lent->right, &nothing_read);
+}
+
+static uint8_t read_next(const char *text, size_t length, struct lent *lent)
+{
+    return hatchyarn_next_answer((const uint8_t *)text, length, &lent->place, &lent->record, &lent->start);
+}
+
+/* Each line alone, and as a text with a line feed and without. */
+static void lines_read(void)
+{
+    for (const struct written *each = written; each < written + WRITTEN; each++) {
+        const struct hatchyarn_record *wanted = each->status == HATCHYARN_READ_DONE ? &each->record : &nothing_read;
+        size_t length = strlen(each->line);
+        char text[32];
+        struct lent lent = lend(99);
+
+        expect(hatchyarn_read_answer((const uint8_t *)each->line, length, &lent.record) == each->status
+                   && holds(&lent, 99, 99, wanted), each->line);
+        lent = lend(0);
+        expect(read_next(each->line, length, &lent) == each->status && holds(&lent, length, 0, wanted), each->line);
+        strcat(strcpy(text, each->line), "\n");
+        lent = lend(0);
+        expect(read_next(text, length + 1, &lent) == each->status && holds(&lent, length + 1, 0, wanted), each->line);
+    }
+    struct lent lent = lend(99);
+    expect(hatchyarn_read_answer(NULL, 0, &lent.record) == HATCHYARN_READ_BAD_LENGTH
+               && holds(&lent, 99, 99, &nothing_read), "an answer at no place");
+    expect(hatchyarn_read_answer((const uint8_t *)answers, 19, &lent.record) == HATCHYARN_READ_BAD_LENGTH
+               && holds(&lent, 99, 99, &nothing_read), "an answer with its line feed");
+    expect(hatchyarn_read_answer((const uint8_t *)answers, 18, &lent.record) == HATCHYARN_READ_DONE
+               && holds(&lent, 99, 99, &written[0].record), "an answer without its line feed");
+}
+
+/* Each bit of the flags word and each status, after which the rest is 0. */
+static void fields_read(void)
+{
+    char line[19];
+
+    for (unsigned bit = 0; bit < 16; bit++) {
+        struct lent lent = lend(99);
+        bool flag = 0x08D5 >> bit & 1;
+        const struct hatchyarn_record wanted = {0, (uint16_t)(1U << bit), 0, 0, 0};
+
+        snprintf(line, sizeof line, "00%04X000000000000", 1U << bit);
+        expect(hatchyarn_read_answer((const uint8_t *)line, 18, &lent.record)
+                       == (flag ? HATCHYARN_READ_DONE : HATCHYARN_READ_BAD_FLAGS)
+                   && holds(&lent, 99, 99, flag ? &wanted : &nothing_read), line);
+    }
+    for (unsigned status = 0; status <= UINT8_MAX; status++) {
+        struct lent lent = lend(99);
+        bool known = status <= 9 && status != 7;
+        const struct hatchyarn_record wanted = {(uint16_t)status, 0, 0, 0, 0};
+
+        snprintf(line, sizeof line, "%02X0000000000000000", status);
+        expect(hatchyarn_read_answer((const uint8_t *)line, 18, &lent.record)
+                       == (known ? HATCHYARN_READ_DONE : HATCHYARN_READ_BAD_STATUS)
+                   && holds(&lent, 99, 99, known ? &wanted : &nothing_read), line);
+    }
+}
+
+/* A text is at its end from this place on: everything stays. */
+static void ends(const char *text, size_t length, size_t place, const char *what)
+{
+    struct lent lent = lend(place);
+    expect(read_next(text, length, &lent) == HATCHYARN_READ_END && holds(&lent, place, 99, &nothing_read), what);
+    expect(read_next(text, length, &lent) == HATCHYARN_READ_END && holds(&lent, place, 99, &nothing_read), what);
+}
+
+/* All lines that can be read and cannot, in one text: as many calls as lines, and one more. */
+static void texts_read(void)
+{
+    char text[WRITTEN * 20 + 1] = "";
+    struct lent lent = lend(0);
+    size_t start = 0, length;
+
+    for (size_t i = 0; i < WRITTEN; i++)
+        strcat(strcat(text, i == 0 ? "" : "\n"), written[i].line);
+    length = strlen(text);
+    for (const struct written *each = written; each < written + WRITTEN; each++) {
+        size_t past = start + strlen(each->line) + (each + 1 < written + WRITTEN);
+        lent.record = nothing_read;
+        expect(read_next(text, length, &lent) == each->status
+                   && holds(&lent, past, start, each->status == HATCHYARN_READ_DONE ? &each->record : &nothing_read),
+               each->line);
+        start = past;
+    }
+    expect(lent.place == length, "a text read to its end");
+    ends(text, length, length, "the end of a text");
+    ends(text, length, length + 1, "a place past a text");
+    ends(text, length, SIZE_MAX, "the last place that there is");
+    ends("", 0, 0, "an empty text");
+    ends(NULL, 0, 0, "a text at no place");
+    ends(NULL, 0, SIZE_MAX, "no text and the last place");
+
+    lent = lend(0);
+    for (size_t i = 0; i < 3; i++)
+        expect(read_next("\n\n\n", 3, &lent) == HATCHYARN_READ_BAD_LENGTH && holds(&lent, i + 1, i, &nothing_read),
+               "an empty line");
+    ends("\n\n\n", 3, 3, "the end of empty lines");
+    lent = lend(2);
+    expect(read_next(text, length, &lent) == HATCHYARN_READ_BAD_LENGTH && holds(&lent, 19, 2, &nothing_read),
+           "a place within a line");
+    lent = lend(0);
+    expect(read_next(answers, 18, &lent) == HATCHYARN_READ_DONE && holds(&lent, 18, 0, &written[0].record),
+           "a text that is cut before a line feed");
+    ends(answers, 18, 18, "the end of a text that is cut");
+}
+
+/* What a run writes is read back, the same divide refused. */
+static void answers_read(void)
+{
+    const struct hatchyarn_record trap = {HATCHYARN_SIGN_RANGE, HATCHYARN_FLAG_A | HATCHYARN_FLAG_P, 95, 0, 0};
+    uint8_t out[2 * HATCHYARN_ANSWER_BYTES];
+    struct lent lent = lend(0);
+    size_t used;
+
+    expect(hatchyarn_run((const uint8_t *)session, strlen(session), out, sizeof out, true, &used) == 2, "a session");
+    expect(read_next((const char *)out, sizeof out, &lent) == HATCHYARN_READ_DONE
+               && holds(&lent, 19, 0, &written[0].record), "the first answer of a session");
+    expect(read_next((const char *)out, sizeof out, &lent) == HATCHYARN_READ_DONE && holds(&lent, 38, 19, &trap)
+               && hatchyarn_divide_refused((uint8_t)lent.record.status), "the second answer of a session");
+    expect(read_next((const char *)out, sizeof out, &lent) == HATCHYARN_READ_END && holds(&lent, 38, 19, &trap),
+           "the end of a session");
+}
+
 int main(void)
 {
     asks();
@@ -221,6 +421,10 @@ int main(void)
     packed_sums();
     packed_pieces();
     packed_refusals();
+    lines_read();
+    fields_read();
+    texts_read();
+    answers_read();
     if (!failed)
         puts("calls: ok");
     return failed;

@@ -5,6 +5,7 @@
 //! is a crate of its own, so that the oracle can be built where the port is not. What MartyPC does not
 //! have is held to a model or a reference.
 
+pub mod answers;
 pub mod asked;
 pub mod bench;
 pub mod careful;

@@ -1,5 +1,6 @@
 //! The sections of a comparison, in the order in which they run.
 
+use crate::answers::{over_texts, sections as answers};
 use crate::form::Form;
 use crate::lines::sections as lines;
 use crate::packed::sections as packed;
@@ -29,5 +30,13 @@ pub fn sections(form: Form) -> Vec<Section> {
         packed::over_nine(form),
         packed::drawn(form),
         packed::pieces(form),
+        answers::damaged(form),
+        answers::cases(form),
+        answers::lengths(form),
+        answers::statuses(form),
+        answers::flags(form),
+        answers::faults(form),
+        over_texts::places(form),
+        over_texts::of_runs(form),
     ]
 }

@@ -13,7 +13,7 @@ type Part = Box<dyn Fn(u64, &mut Tally) + Sync>;
 
 pub struct Section {
     pub name: &'static str,
-    /// What is counted: requests, or calls over text or packed digits.
+    /// What is counted: requests, or calls over text, packed digits or answer lines.
     pub unit: &'static str,
     parts: u64,
     part: Part,

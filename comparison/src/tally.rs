@@ -1,5 +1,6 @@
 //! What a comparison has seen: how much, and what differed.
 
+use crate::answers;
 use crate::asked::Asked;
 use crate::divides::Divides;
 use crate::packed::loan;
@@ -17,6 +18,8 @@ pub struct Tally {
     ours: Side,
     /// In place of the port's functions on packed digits.
     pub packed: loan::Side,
+    /// In place of the port's functions that read answer lines.
+    pub answers: answers::loan::Side,
     pub compared: u64,
     pub divides: Divides,
     /// How many answers differ. One is enough to fail.
@@ -29,6 +32,7 @@ impl Tally {
         Tally {
             ours,
             packed: loan::ours,
+            answers: answers::loan::ours,
             compared: 0,
             divides: Divides::default(),
             differing: 0,
@@ -41,9 +45,16 @@ impl Tally {
         Tally { packed, ..self }
     }
 
+    /// The same, with another side for answer lines than the port.
+    pub fn with_answers(self, answers: answers::loan::Side) -> Tally {
+        Tally { answers, ..self }
+    }
+
     /// One that has seen nothing, with the same sides in place of the port.
     pub fn fresh(&self) -> Tally {
-        Tally::new(self.ours).with_packed(self.packed)
+        Tally::new(self.ours)
+            .with_packed(self.packed)
+            .with_answers(self.answers)
     }
 
     /// Asks both sides, and holds the port to MartyPC.

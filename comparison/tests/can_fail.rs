@@ -1,5 +1,6 @@
 //! A comparison is worth what it can refuse: wrong answers put in place of the port's are reported.
 
+use comparison::answers;
 use comparison::asked::Asked;
 use comparison::form::Form;
 use comparison::lent::Lent;
@@ -16,6 +17,7 @@ use hatchyarn::raw::{self, Ran};
 use oracle::edges;
 use oracle::request::Operation;
 use std::convert::Infallible;
+use std::ops::BitXorAssign;
 
 mod wrong;
 
@@ -351,6 +353,95 @@ fn a_wrong_part_of_a_packed_call_is_found_and_named() {
         }
         let mut tally = Tally::new(ours);
         hold(&mut tally, call);
+        assert_eq!((tally.compared, tally.differing), (1, 0));
+    }
+}
+
+fn with_answers(side: answers::loan::Side) -> Tally {
+    Tally::new(ours).with_answers(side)
+}
+
+#[test]
+fn wrong_readings_of_answer_lines_are_found() {
+    for (name, side, sections) in wrong::answers::RULES {
+        for section in sections {
+            let tally = run(section, with_answers(side));
+            assert!(tally.differing > 0, "{name}, {section}");
+        }
+    }
+    for section in wrong::answers::SECTIONS {
+        assert_eq!(run(section, Tally::new(ours)).differing, 0, "{section}");
+    }
+}
+
+/// The port, but that something beside what it is lent is changed.
+fn but(call: answers::call::Call, loan: &mut answers::loan::Loan, wrong: Beside) -> u8 {
+    let status = answers::loan::ours(call, loan);
+    wrong(loan);
+    status
+}
+
+type Beside = fn(&mut answers::loan::Loan);
+
+fn flip_before<T: BitXorAssign + From<u8>>(lent: &mut Lent<T>) {
+    lent.whole[lent.room.start - 1] ^= T::from(1);
+}
+
+fn flip_behind<T: BitXorAssign + From<u8>>(lent: &mut Lent<T>) {
+    lent.whole[lent.room.end] ^= T::from(1);
+}
+
+/// Each part of what comes of a call, and a port that has it wrong.
+const WRONG_PARTS_OF_ANSWERS: [(&str, answers::loan::Side); 9] = [
+    ("status", |call, loan| answers::loan::ours(call, loan) ^ 1),
+    ("text", |call, loan| {
+        but(call, loan, |loan| flip_before(&mut loan.text))
+    }),
+    ("text", |call, loan| {
+        but(call, loan, |loan| flip_behind(&mut loan.text))
+    }),
+    ("record", |call, loan| {
+        but(call, loan, |loan| flip_before(&mut loan.record))
+    }),
+    ("record", |call, loan| {
+        but(call, loan, |loan| flip_behind(&mut loan.record))
+    }),
+    ("place", |call, loan| {
+        but(call, loan, |loan| flip_before(&mut loan.place))
+    }),
+    ("place", |call, loan| {
+        but(call, loan, |loan| flip_behind(&mut loan.place))
+    }),
+    ("start", |call, loan| {
+        but(call, loan, |loan| flip_before(&mut loan.start))
+    }),
+    ("start", |call, loan| {
+        but(call, loan, |loan| flip_behind(&mut loan.start))
+    }),
+];
+
+/// Calls that read a record, are refused, and find the end.
+#[test]
+fn a_wrong_part_of_an_answer_read_back_is_found_and_named() {
+    use answers::call::Call::{Next, Read};
+    let line = b"000001005100030001";
+    for call in [
+        Read(line),
+        Read(&line[1..]),
+        Next(line, 0),
+        Next(line, 1),
+        Next(line, 18),
+    ] {
+        for (part, side) in WRONG_PARTS_OF_ANSWERS {
+            let mut tally = with_answers(side);
+            answers::held::hold(&mut tally, call);
+            let [shown] = &tally.shown[..] else {
+                panic!("{:?}", tally.shown)
+            };
+            assert!(shown.ends_with(&format!(": {part} differ")), "{shown}");
+        }
+        let mut tally = Tally::new(ours);
+        answers::held::hold(&mut tally, call);
         assert_eq!((tally.compared, tally.differing), (1, 0));
     }
 }

@@ -1,6 +1,7 @@
 //! The Rust that the port is timed beside answers as the oracle and the references do, or its time would
 //! mean nothing.
 
+use comparison::answers;
 use comparison::asked::Asked;
 use comparison::form::Form;
 use comparison::lines::model::Model;
@@ -110,4 +111,29 @@ fn packed_digits_in_one_pass_are_as_in_the_reference() {
 #[test]
 fn packed_digits_by_a_table_are_as_in_the_reference() {
     hold_packed(|call, loan| loan.call(call, [tabled::add, tabled::subtract]));
+}
+
+/// Stands in place of the port in all sections of answer lines.
+fn hold_answers(side: answers::loan::Side) {
+    let sections = plan::sections(QUICK).into_iter();
+    let tally = Tally::new(ours).with_answers(side);
+    let of_answers = sections.filter(|section| section.name.starts_with("answers, "));
+    let held: Vec<Tally> = of_answers.map(|section| section.run(1, &tally)).collect();
+    assert_eq!(held.len(), 8);
+    for held in held {
+        assert!(held.compared > 10_000);
+        assert_eq!(held.differing, 0, "{:?}", held.shown);
+    }
+}
+
+#[test]
+fn answer_lines_digit_by_digit_are_as_in_the_reference() {
+    use answers::careful::{next, read};
+    hold_answers(|call, loan| loan.call(call, (read, next)));
+}
+
+#[test]
+fn answer_lines_by_a_table_are_as_in_the_reference() {
+    use answers::tabled::{next, read};
+    hold_answers(|call, loan| loan.call(call, (read, next)));
 }

@@ -36,6 +36,10 @@
 //!
 //! Numbers of packed decimal digits, as loan cards hold them, are added and subtracted by
 //! [`packed::add`] and [`packed::subtract`].
+//!
+//! Answers that were written as text are read back by [`record::records`], a [`record::Record`] a line, to
+//! be compared with others or told in words. A line that cannot be read is told with its place and the
+//! reason.
 
 mod answer;
 mod flags;
@@ -43,6 +47,7 @@ mod lines;
 mod operation;
 pub mod packed;
 pub mod raw;
+pub mod record;
 
 pub use answer::{Answer, DivideRefusal, Refusal};
 pub use flags::Flags;

@@ -1,9 +1,10 @@
-//! The five functions as the static library has them.
+//! The seven functions as the static library has them.
 //!
 //! They are safe to call with anything: nothing is required of a caller, and every request gets an
 //! answer. Use them for requests that come from elsewhere as numbers or as text; a program that
-//! writes its own requests is better served by [`Operation`](crate::Operation), and one that adds
-//! packed decimal numbers by [`packed`](crate::packed).
+//! writes its own requests is better served by [`Operation`](crate::Operation), one that adds packed
+//! decimal numbers by [`packed`](crate::packed), and one that reads answer lines back by
+//! [`record`](crate::record).
 
 /// What [`ask`] answers.
 #[derive(Clone, Copy, Debug, PartialEq, Eq, Hash)]
@@ -58,6 +59,14 @@ mod linked {
             out: *mut u8,
             room: usize,
             borrow_out: *mut u8,
+        ) -> u8;
+        pub fn hatchyarn_read_answer(line: *const u8, length: usize, record: *mut u16) -> u8;
+        pub fn hatchyarn_next_answer(
+            text: *const u8,
+            length: usize,
+            place: *mut usize,
+            record: *mut u16,
+            start: *mut usize,
         ) -> u8;
     }
 }
@@ -146,5 +155,23 @@ pub fn packed_subtract(
             out.len(),
             borrow_out,
         )
+    }
+}
+
+/// Reads one answer line, given without its line feed: status, flags, steps, R and S. The status is 0;
+/// where it is one of 30 to 34, those of [`record::Reason`](crate::record::Reason), nothing is written.
+pub fn read_answer(line: &[u8], record: &mut [u16; 5]) -> u8 {
+    // SAFETY: the pointer goes with the length of its slice; five numbers are written, and there is room
+    // for five.
+    unsafe { linked::hatchyarn_read_answer(line.as_ptr(), line.len(), record.as_mut_ptr()) }
+}
+
+/// Reads the next answer line of `text`, which starts at `place`. After 0, with its five numbers in
+/// `record`, and after a refusal, 30 to 34, `start` is where the line starts and `place` is past it and its
+/// line feed. After 255 there was no line left, and all is as it was.
+pub fn next_answer(text: &[u8], place: &mut usize, record: &mut [u16; 5], start: &mut usize) -> u8 {
+    // SAFETY: the pointer goes with the length of its slice, and all that is written is apart.
+    unsafe {
+        linked::hatchyarn_next_answer(text.as_ptr(), text.len(), place, record.as_mut_ptr(), start)
     }
 }

@@ -1,6 +1,7 @@
 //! The port and MartyPC's Rust, or what else does the same, timed on the same job. Times are told, never
 //! judged.
 
+pub mod answers;
 pub mod calls;
 mod counts;
 mod drawn;

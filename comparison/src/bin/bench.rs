@@ -1,5 +1,6 @@
 //! The program `bench`: prints Markdown tables of times. `./bench` in the top folder starts it.
 
+use comparison::bench::answers;
 use comparison::bench::calls;
 #[cfg(feature = "functions")]
 use comparison::bench::functions;
@@ -14,6 +15,7 @@ use:
   bench functions                               bare functions, where the feature of that name is on
   bench calls                                   one call at a time, by operation
   bench packed                                  packed digits, by operation and length
+  bench answers                                 answer lines read back, good ones and malformed
   bench programs HATCHYARN FILTER FOLDER        whole programs; files are made in FOLDER
 
 exit: 0 measured, 1 the two sides answer differently or a file failed, 2 not understood
@@ -27,6 +29,7 @@ fn main() -> ExitCode {
         ["functions"] => functions::print(),
         ["calls"] => calls::print(),
         ["packed"] => packed::print(),
+        ["answers"] => answers::print(),
         ["programs", ours, theirs, folder] => Programs {
             ours: ours.into(),
             theirs: theirs.into(),

@@ -3,4 +3,4 @@
 pub mod held;
 pub mod model;
 pub mod sections;
-mod texts;
+pub(crate) mod texts;

@@ -60,7 +60,8 @@ pub fn status(line: &[u8], room: usize) -> u8 {
     }
 }
 
-fn numbers(line: &[u8]) -> Numbers {
+/// The answer to one line as numbers, wherever it is written.
+pub fn numbers(line: &[u8]) -> Numbers {
     if line.len() != REQUEST {
         return refused(1);
     }

@@ -8,7 +8,7 @@ use oracle::request::{Operation, REQUEST_DIGITS};
 const LONGEST: u32 = 200_000;
 
 /// Bytes that are no digit and that files are known to hold, or that stand beside the digits.
-const STRANGE: &[u8] = b"\r\0/:@G`g \t+-xX\x7F\x80\xC3\xFF";
+pub const STRANGE: &[u8] = b"\r\0/:@G`g \t+-xX\x7F\x80\xC3\xFF";
 
 pub struct Texts {
     operations: Vec<Operation>,
@@ -63,11 +63,7 @@ impl Texts {
         let mut line = draw.request(&self.operations).to_line()[..REQUEST_DIGITS].to_vec();
         let some = draw.bits();
         let small = draw.pick(&[0, u64::MAX, some]);
-        for (place, byte) in line.iter_mut().enumerate() {
-            if small >> place & 1 != 0 {
-                byte.make_ascii_lowercase();
-            }
-        }
+        make_small(&mut line, small);
         line
     }
 
@@ -83,5 +79,14 @@ impl Texts {
         let length = draw.below(LONGEST + 1) as usize;
         line.resize(length, draw.pick(b"0A\r\0\xFF"));
         line
+    }
+}
+
+/// Makes the letters small in those places that have their bit set.
+pub fn make_small(line: &mut [u8], places: u64) {
+    for (place, byte) in line.iter_mut().enumerate() {
+        if places.rotate_right(place as u32) & 1 != 0 {
+            byte.make_ascii_lowercase();
+        }
     }
 }

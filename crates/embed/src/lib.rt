@@ -1,6 +1,6 @@
 // What a program in another language calls: a request given as numbers, one line, a run over many lines,
-// and packed decimal strings added and subtracted. Nothing is required of a caller but that each pointer
-// leads to as many bytes as it says.
+// packed decimal strings added and subtracted, and answer lines read back. Nothing is required of a caller
+// but that each pointer leads to as many bytes as it says.
 ghost use mathlib.Core.Path.{_≡_};
 ghost use Prim.Native.Nat.{_/_};
 ghost use lib.ListN.{length};
@@ -9,6 +9,8 @@ ghost use Rattle.line.specs.Run.{done, runOf};
 ghost use Rattle.answer.specs.Asked.{statusOf, partsOf};
 ghost use Rattle.packed.specs.Sum.{plus, minus};
 ghost use Rattle.packed.specs.Told.{told, toldBy};
+ghost use Rattle.record.specs.Judge.{readBack};
+ghost use Rattle.record.specs.Told.{statusOf as readStatus, recordLeft, turn, turnAt};
 use answer::ask;
 use line::one;
 use line::run;
@@ -81,4 +83,27 @@ pub extern "C" fn hatchyarn_packed_subtract(
     ensures { λ r. ⌜ told r (now (out .exit)) (now («borrow_out» .exit)) ≡ toldBy minus (now (x .entry)) (now (y .entry)) borrow (now (out .entry)) (now («borrow_out» .entry)) ⌝ }
 {
     told::tell(string::subtract(x, y, borrow, out), borrow_out)
+}
+
+// One answer line without its line feed: its five numbers go into `record`; returns 0. A refusal, 30 to 34,
+// writes nothing.
+#[no_mangle]
+pub extern "C" fn hatchyarn_read_answer(line: &[u8], record: &mut [u16; 5]) -> u8
+    ensures { λ r. ⌜ (r ≡ readStatus (readBack (now (line .entry)))) × (now («record» .exit) ≡ recordLeft (readBack (now (line .entry))) (now («record» .entry))) ⌝ }
+{
+    record::told::tell(record::one::read_answer(line), record)
+}
+
+// The answer line from `place` on: the same, and `start` becomes where it starts, `place` where the next
+// does. Where no byte is left returns 255 and writes nothing.
+#[no_mangle]
+pub extern "C" fn hatchyarn_next_answer(
+    text: &[u8],
+    place: &mut usize,
+    record: &mut [u16; 5],
+    start: &mut usize,
+) -> u8
+    ensures { λ r. ⌜ turn r (now (place .exit)) (now («record» .exit)) (now (start .exit)) ≡ turnAt (now (text .entry)) (now (place .entry)) (now («record» .entry)) (now (start .entry)) ⌝ }
+{
+    record::told::tell_next(record::reader::next_at(text, *place), place, record, start)
 }

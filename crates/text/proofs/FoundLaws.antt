@@ -16,7 +16,7 @@ use Rattle.text.specs.declared.fields.Read.{Read}
 use Rattle.text.specs.declared.fields.Read.the-variants.{Fields as OfFields, Length, Digit}
 
 -- a text whose first line feed is at n
-first-feed : (t : List ℕ) (n : ℕ) → n < length t → ((i : ℕ) → i < n → getD t i 0 ≡ 0x0A → ⊥) → getD t n 0 ≡ 0x0A → lineLength t ≡ n
+pub first-feed : (t : List ℕ) (n : ℕ) → n < length t → ((i : ℕ) → i < n → getD t i 0 ≡ 0x0A → ⊥) → getD t n 0 ≡ 0x0A → lineLength t ≡ n
 first-feed [] n h before e = absurd (omega arith)
 first-feed (b ∷ t) zero h before e = rw (eq-eqb b 0x0A e)
 first-feed (b ∷ t) (suc n) h before e =
@@ -27,7 +27,7 @@ both true y e = (refl, e)
 both false y e = absurd (false≢true e)
 
 -- a digit is no line feed
-no-feed : (b : ℕ) → ltb (digitOf b) 16 ≡ true → b ≡ 0x0A → ⊥
+pub no-feed : (b : ℕ) → ltb (digitOf b) 16 ≡ true → b ≡ 0x0A → ⊥
 unfolding digitOf
 no-feed b h e = false≢true (subst (λ (x : ℕ). ltb (digitOf x) 16 ≡ true) e h)
 

@@ -1,3 +1,4 @@
+pub mod DigitsAt
 pub mod FoundLaws
 pub mod LineLaws
 pub mod NextLine

@@ -16,20 +16,25 @@ use Rattle.text.proofs.FoundLaws.{both}
 
 -- ---- digits
 
+pub within : (low high b : ℕ) → between low high b ≡ true → (low ≤ b) × (b ≤ high)
+within low high b e =
+    let h = both (leb low b) (leb b high) e in
+    (leb-true low b (h .0), leb-true b high (h .1))
+
 -- a byte is a digit exactly if it stands for a number below 16
 pub digit-below : (b : ℕ) → ltb (digitOf b) 16 ≡ isDigit b
 unfolding digitOf
 digit-below b = by (between 0x30 0x39 b) (between 0x41 0x46 b) (between 0x61 0x66 b) refl refl refl
   where
-    up-to : (low high : ℕ) → between low high b ≡ true → b ≤ high
-    up-to low high e = leb-true b high (both (leb low b) (leb b high) e .1)
-
     by : (x y z : Bool) → between 0x30 0x39 b ≡ x → between 0x41 0x46 b ≡ y → between 0x61 0x66 b ≡ z
         → ltb (cond x (b - 0x30) (cond y (b - 0x37) (cond z (b - 0x57) 16))) 16 ≡ x || y || z
-    by true y z ex ey ez = lt-ltb (b - 0x30) 16 (omega (arith, up-to 0x30 0x39 ex))
-    by false true z ex ey ez = lt-ltb (b - 0x37) 16 (omega (arith, up-to 0x41 0x46 ey))
-    by false false true ex ey ez = lt-ltb (b - 0x57) 16 (omega (arith, up-to 0x61 0x66 ez))
+    by true y z ex ey ez = lt-ltb (b - 0x30) 16 (omega (arith, within 0x30 0x39 b ex))
+    by false true z ex ey ez = lt-ltb (b - 0x37) 16 (omega (arith, within 0x41 0x46 b ey))
+    by false false true ex ey ez = lt-ltb (b - 0x57) 16 (omega (arith, within 0x61 0x66 b ez))
     by false false false ex ey ez = refl
+
+pub is-below : (b : ℕ) → isDigit b ≡ true → digitOf b < 16
+is-below b h = ltb-true (digitOf b) 16 (digit-below b ∙ h)
 
 -- four bytes
 module _ (a b c d : ℕ) where
@@ -46,9 +51,6 @@ module _ (a b c d : ℕ) where
       let y = both (isDigit a && isDigit b) (isDigit c) (z .0) in
       let x = both (isDigit a) (isDigit b) (y .0) in
       (is-below a (x .0), is-below b (x .1), is-below c (y .1), is-below d (z .1))
-    where
-      is-below : (k : ℕ) → isDigit k ≡ true → digitOf k < 16
-      is-below k h = ltb-true (digitOf k) 16 (digit-below k ∙ h)
 
   four-value : areFour ≡ true → four ≡ digitOf a * 0x1000 + digitOf b * 0x100 + digitOf c * 0x10 + digitOf d
   unfolding fourOf

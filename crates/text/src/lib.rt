@@ -4,4 +4,5 @@ pub mod digits;
 pub mod fields;
 pub mod found;
 pub mod lines;
+pub mod numbers;
 pub mod written;

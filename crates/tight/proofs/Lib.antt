@@ -12,5 +12,6 @@ pub mod OfRequest
 pub mod OfAnswer
 pub mod OfText
 pub mod OfLine
+pub mod OfRecord
 pub mod OfBlocks
 pub mod OfEmbed

@@ -18,3 +18,9 @@ module _ {M : Type 1} where
 
   pub lib-hatchyarn-packed-subtract : Tight M lib.hatchyarn_packed_subtract.signature lib.hatchyarn_packed_subtract.clauses
   lib-hatchyarn-packed-subtract c g r s = plainly (c .𝓤) (λ e d. let t = same e d in (λ i. t i .status, λ i. (tt, (tt, (tt, (t i .buffer, (t i .carry, tt)))))))
+
+  pub lib-hatchyarn-read-answer : Tight M lib.hatchyarn_read_answer.signature lib.hatchyarn_read_answer.clauses
+  lib-hatchyarn-read-answer c g r s = plainly (c .𝓤) (λ e d. (same (e .0) (d .0), λ i. (tt, (same (e .1) (d .1) i, tt))))
+
+  pub lib-hatchyarn-next-answer : Tight M lib.hatchyarn_next_answer.signature lib.hatchyarn_next_answer.clauses
+  lib-hatchyarn-next-answer c g r s = plainly (c .𝓤) (λ e d. let t = same e d in (λ i. t i .status, λ i. (tt, (t i .place, (t i .numbers, (t i .start, tt))))))

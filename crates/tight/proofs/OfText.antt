@@ -4,6 +4,7 @@ use Rattle.text.proofs.digits
 use Rattle.text.proofs.fields
 use Rattle.text.proofs.found
 use Rattle.text.proofs.lines
+use Rattle.text.proofs.numbers
 use Rattle.text.proofs.written
 use Rattle.tight.specs.Tight.{Tight}
 use Rattle.tight.proofs.Law.{plainly, same, one-table}
@@ -38,6 +39,15 @@ module _ {M : Type 1} where
 
   pub lines-next-start : Tight M lines.next_start.signature lines.next_start.clauses
   lines-next-start c g r s = plainly (c .𝓤) (λ e d. (same e d, refl))
+
+  pub numbers-all-digits : Tight M numbers.all_digits.signature numbers.all_digits.clauses
+  numbers-all-digits c g r s = plainly (c .𝓤) (λ e d. (same e d, refl))
+
+  pub numbers-two-at : Tight M numbers.two_at.signature numbers.two_at.clauses
+  numbers-two-at c g r s = plainly (c .𝓤) (λ e d. (same e d, refl))
+
+  pub numbers-four-at : Tight M numbers.four_at.signature numbers.four_at.clauses
+  numbers-four-at c g r s = plainly (c .𝓤) (λ e d. (same e d, refl))
 
   pub written-write : Tight M written.write.signature written.write.clauses
   written-write c g r s = plainly (c .𝓤) (λ e d. (refl, λ i. (tt, (tt, (tt, (tt, (tt, (tt, (same e d i, tt)))))))))

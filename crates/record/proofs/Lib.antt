@@ -1,0 +1,4 @@
+pub mod JudgeLaws
+pub mod LineLaws
+pub mod NextLaws
+mod Thin

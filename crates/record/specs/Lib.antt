@@ -1,0 +1,5 @@
+pub mod Judge
+pub mod Reader
+pub mod Told
+pub mod Again
+pub mod Whole

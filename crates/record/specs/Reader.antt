@@ -1,0 +1,30 @@
+-- A reader of many answer lines: what it hands out at a place of a text, and the place where it stands then. Assumes nothing.
+use mathlib.Core.Bool.{Bool, true, cond, _||_}
+use mathlib.Core.List.{List}
+use Prim.Native.Nat.{ℕ, _+_}
+use lib.Dec.{ltb, eqb}
+use lib.ListN.{length, getD, drop}
+use Rattle.text.specs.Lines.{lineAt, takes}
+use Rattle.record.specs.Judge.{readBack}
+use Rattle.record.specs.declared.judge.Read.{Read}
+use Rattle.record.specs.declared.judge.Read.the-variants.{Record, Refused}
+use Rattle.record.specs.declared.reader.Handed.{Handed}
+use Rattle.record.specs.declared.reader.Handed.the-variants.{Record as HandedRecord, Bad, End}
+use Rattle.record.specs.declared.reader.Stepped.{Stepped}
+
+-- the record of a line; or the refusal, with the byte where that line starts
+abbrev pub handOut : Read → ℕ → Handed
+handOut (Record a) start = HandedRecord a
+handOut (Refused why) start = Bad (record { why = why; start = start })
+
+-- the next line from a place on, and the place past it, its line feed included: lines end as in a run with the mark. Where no byte is left it is the
+-- end, and the place stays
+unfoldable pub nextAt : List ℕ → ℕ → Stepped
+nextAt text at =
+    cond (ltb at (length text))
+    (record { handed = handOut (readBack (lineAt text at)) at; place = at + takes true (drop at text) })
+    (record { handed = End; place = at })
+
+-- a line that reaches so far ends there: the text does, or a line feed stands there
+abbrev pub endsAt : List ℕ → ℕ → Bool
+endsAt text at = eqb at (length text) || eqb (getD text at 0) 0x0A
