@@ -1,14 +1,14 @@
 -- Whether a line of a text is 18 digits, by the 18 bytes where it starts and what stands behind them. Assumes nothing.
 use mathlib.Core.Path.{_≡_, refl, sym, ap, _∙_}
-use mathlib.Core.Bool.{Bool, true, false, cond, _&&_, _||_, false≢true}
+use mathlib.Core.Bool.{Bool, true, false, cond, _||_, false≢true}
 use mathlib.Core.List.{List, [], _∷_}
-use Prim.Native.Nat.{ℕ, zero, suc, _+_, _<_, _≤_}
+use Prim.Native.Nat.{ℕ, suc, _+_, _<_, _≤_}
 use native.Mathlib.Nat.{le-of-suc-le-suc, not-suc-le-zero}
 use native.Mathlib.Omega.{arith}
 use lib.Dec.{eqb}
 use lib.ListN.{length, getD, take, drop, length-drop}
 use lib.Seq.{getD-take, getD-drop, length-take-le}
-use borrow.Author.Tests.{eqb-true, eqb-false, eq-eqb, ne-eqb}
+use borrow.Author.Tests.{eqb-true, eqb-false, ne-eqb}
 use Rattle.text.specs.Lines.{lineLength, lineAt}
 use Rattle.text.specs.Plain.{allDigits}
 use Rattle.text.proofs.LineLaws.{length-within}
@@ -25,7 +25,7 @@ feed-by true b t e r h = eqb-true b 0x0A e
 feed-by false b t e r h = r (le-of-suc-le-suc h)
 
 -- behind a line that does not end with its text stands a line feed
-feed-behind : (t : List ℕ) → lineLength t < length t → getD t (lineLength t) 0 ≡ 0x0A
+pub feed-behind : (t : List ℕ) → lineLength t < length t → getD t (lineLength t) 0 ≡ 0x0A
 feed-behind [] h = absurd (not-suc-le-zero h)
 feed-behind (b ∷ t) h = feed-by (eqb b 0x0A) b t refl (feed-behind t) h
 

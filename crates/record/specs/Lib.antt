@@ -1,4 +1,5 @@
 pub mod Judge
+pub mod Table
 pub mod Reader
 pub mod Told
 pub mod Again

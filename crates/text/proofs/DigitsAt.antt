@@ -66,7 +66,7 @@ digits-no-feed (b ∷ t) h zero l e = digit-no-feed b (both (isDigit b) (allDigi
 digits-no-feed (b ∷ t) h (suc i) l e = digits-no-feed t (both (isDigit b) (allDigits t) h .1) i (omega arith) e
 
 -- a part of the first n is a part of the whole
-part : (i m n : ℕ) (l : List ℕ) → i + m ≤ n → take m (drop i (take n l)) ≡ take m (drop i l)
+pub part : (i m n : ℕ) (l : List ℕ) → i + m ≤ n → take m (drop i (take n l)) ≡ take m (drop i l)
 part zero m n l h = take-take m n l (omega arith)
 part (suc i) m zero l h = absurd (omega arith)
 part (suc i) m (suc n) [] h = refl

@@ -1,11 +1,8 @@
 -- `record::reader::is_digits` meets its contract: too few bytes, a line that goes on, or its 18 bytes. Assumes nothing.
-use mathlib.Core.Path.{_≡_, sym, _∙_}
-use mathlib.Core.Bool.{true}
-use Prim.Native.Nat.{_+_}
+use mathlib.Core.Path.{sym, _∙_}
 use native.Mathlib.Omega.{arith}
 use borrow.Author.Needs.{needs}
 use borrow.Author.Tests.{not-true, not-false}
-use Rattle.record.specs.Reader.{endsAt}
 use Rattle.record.proofs.LineLaws.{too-short, goes-on, by-digits}
 use Rattle.record.proofs.reader.is_digits.Statement.{statement}
 use Rattle.record.proofs.reader.is_digits.Tie as tie

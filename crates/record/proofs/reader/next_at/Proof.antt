@@ -1,6 +1,6 @@
 -- `record::reader::next_at` meets its contract: the end, a line of 18 digits, or any other line. Assumes nothing.
 use mathlib.Core.Path.{_≡_, refl, sym, ap, _∙_}
-use mathlib.Core.Bool.{Bool, true}
+use mathlib.Core.Bool.{true}
 use Prim.Native.Nat.{ℕ, _+_}
 use native.Mathlib.Omega.{arith}
 use borrow.Author.Needs.{needs}
@@ -8,7 +8,6 @@ use borrow.Author.Tests.{not-true, not-false}
 use Rattle.text.specs.Lines.{lineAt}
 use Rattle.text.proofs.NextLine.{next-takes}
 use Rattle.record.specs.Judge.{isDigits}
-use Rattle.record.specs.declared.reader.Handed.{Handed}
 use Rattle.record.proofs.LineLaws.{has-18, digits-there}
 use Rattle.record.proofs.NextLaws.{at-end, at-line, at-digits}
 use Rattle.record.proofs.reader.next_at.Statement.{statement}

@@ -1,6 +1,5 @@
 -- `record::told::tell` meets its contract: the five numbers, or the number of the refusal. Assumes nothing.
-use mathlib.Core.Path.{sym, ap, _∙_}
-use lib.ListN.{length}
+use mathlib.Core.Path.{sym, ap}
 use borrow.Author.Needs.{needs}
 use Rattle.record.specs.Told.{statusOf, recordLeft}
 use Rattle.record.specs.declared.judge.Read.{Read}
