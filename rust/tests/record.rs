@@ -423,6 +423,24 @@ fn what_is_answered_is_read_back() {
     }
 }
 
+/// The answers of the recorded list, of every operation, mode and status.
+#[test]
+fn the_recorded_answers_are_read_back() {
+    let list = include_bytes!("../../crates/replay/stdin");
+    let mut statuses = [false; 10];
+    for line in list
+        .split(|byte| *byte == b'\n')
+        .filter(|line| !line.is_empty())
+    {
+        let answer = &line[..18];
+        let record = Record::try_from(answer).unwrap();
+        assert_eq!(record.to_string().as_bytes(), answer);
+        statuses[usize::from(record.status())] = true;
+    }
+    let met: Vec<_> = (0..10).filter(|status| statuses[*status]).collect();
+    assert_eq!(met, [0, 1, 2, 3, 4, 5, 6, 8, 9]);
+}
+
 /// What the same request gets as numbers; `None` where the line has none.
 fn asked(request: &str) -> Option<Result<Answer, Refusal>> {
     if request.len() != 20 {
