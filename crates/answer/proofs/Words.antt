@@ -37,7 +37,7 @@ use Rattle.answer.specs.declared.answer.Answer.{Answer}
 use Rattle.answer.proofs.Width.{alu-fits, divided-fits}
 
 -- what is held of each answer
-abbrev Words : Answer → Type 0
+abbrev pub Words : Answer → Type 0
 Words a = (isFlags (a .flags) ≡ true) × (a .steps < 0x1_0000) × (a .r < 0x1_0000) × (a .s < 0x1_0000)
 
 -- flags put together are flags
@@ -147,7 +147,7 @@ charted-words (OfDivide m) x y f (hx, hy) =
 charted-words (OfDecimal decimal) x y f (hx, hy) = adjust-words decimal x y f hx hy
 
 -- a refusal before the charts
-zeros-words : (status : ℕ) → Words (zeros status)
+pub zeros-words : (status : ℕ) → Words (zeros status)
 unfolding isFlags wordOf flagsOf
 zeros-words status = (refl, omega arith, omega arith, omega arith)
 

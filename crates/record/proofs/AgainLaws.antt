@@ -1,12 +1,13 @@
 -- A line and its record. `read-again`: a good line, read and written again, is the same in capitals. `written-read`: a record that no refusal fits,
--- written and read, is itself. So lines that read as one record are the same in capitals (`one-line`), and records that are written alike are one
--- (`one-record`). Assumes nothing.
-use mathlib.Core.Path.{_≡_, refl, sym, ap, _∙_}
+-- written and read, is itself; each record that was read is such a one (`read-fits`). So lines that read as one record are the same in capitals
+-- (`one-line`), those that are the same in capitals read alike (`read-capitals`), and records that are written alike are one (`one-record`).
+-- `steps-free`: steps are not judged. Assumes nothing.
+use mathlib.Core.Path.{_≡_, refl, sym, ap, subst, _∙_}
 use mathlib.Core.Bool.{Bool, true, false, not, cond, _&&_, _||_, false≢true}
 use mathlib.Core.List.{List, [], _∷_, _++_, append-assoc}
-use Prim.Native.Nat.{ℕ, suc, _+_, _-_, _/_, _%_, _<_, _≤_}
+use Prim.Native.Nat.{ℕ, zero, suc, _+_, _-_, _*_, _/_, _%_, _^_, _<_, _≤_}
 use native.Mathlib.Omega.{arith}
-use lib.Dec.{eqb}
+use lib.Dec.{ltb, eqb}
 use lib.ListN.{length, take, drop, length-drop}
 use lib.Seq.{take-all, take-add, take-at, drop-drop, length-take-le}
 use borrow.Author.Tests.{eqb-true, lt-ltb, le-ltb}
@@ -16,16 +17,21 @@ use Rattle.text.specs.Plain.{isDigit, allDigits, numberOf, fieldAt}
 use Rattle.text.specs.Written.{two, four, written}
 use Rattle.text.proofs.FoundLaws.{both}
 use Rattle.text.proofs.Plain.{within, digit-below, is-below}
-use Rattle.text.proofs.DigitsAt.{digits-within}
-use Rattle.text.proofs.ReadBack.{digit-read}
+use Rattle.text.proofs.DigitsAt.{digits-within, field-below}
+use Rattle.text.proofs.ReadBack.{small-letter, digit-read, two-number, four-number}
 use Rattle.line.specs.One.{textBy}
 use Rattle.answer.specs.declared.answer.Answer.{Answer}
-use Rattle.record.specs.Judge.{recordIn, isStatus, outside, notZero, judged, isDigits, readBack}
+use Rattle.record.specs.Judge.{recordIn, isStatus, refusesDivide, outside, noResult, allZeros, notZero, judged, readBack}
 use Rattle.record.specs.Again.{capital, capitals, lineOf, Typed}
-use Rattle.record.specs.declared.judge.Refusal.the-variants.{Status, Flags, NotZero}
+use Rattle.record.specs.Quick.{isDigits}
+use Rattle.record.specs.declared.judge.Refusal.the-variants.{Length, Digit, Status, Flags, NotZero}
 use Rattle.record.specs.declared.judge.Read.{Read}
 use Rattle.record.specs.declared.judge.Read.the-variants.{Record, Refused}
 use Rattle.record.proofs.NextLaws.{read-digits, read-other}
+
+-- a part of 18 digits is digits
+digits-of : (line : List ℕ) → length line ≡ 18 → allDigits line ≡ true → (i m : ℕ) → i + m ≤ 18 → allDigits (take m (drop i line)) ≡ true
+digits-of line long h i m l = digits-within line 0 18 i m (ap allDigits (take-all 18 line (omega (arith, long))) ∙ h) (omega arith) (omega arith)
 
 -- ---- a record that was read
 
@@ -55,6 +61,39 @@ good-line line a e = by (isDigits line) refl
     by : (k : Bool) → isDigits line ≡ k → (isDigits line ≡ true) × (recordIn line ≡ a)
     by true h = (h, judged-good (recordIn line) a (sym (read-digits line h) ∙ e))
     by false h = absurd (false≢true (ap isRecord (sym (read-other line h) ∙ e)))
+
+-- no refusal fits it, and each field fits its type
+pub read-fits : (line : List ℕ) (a : Answer) → readBack line ≡ Record a → (judged a ≡ Record a) × Typed a
+read-fits line a e =
+    let g = good-line line a e in
+    let d = both (eqb (length line) 18) (allDigits line) (g .0) in
+    let part : (i m : ℕ) → i + m ≤ 18 → allDigits (take m (drop i line)) ≡ true = digits-of line (eqb-true (length line) 18 (d .0)) (d .1) in
+    let fields : Typed (recordIn line) =
+    record {
+      status = field-below line 0 2 (part 0 2 (omega arith));
+      flags = field-below line 2 4 (part 2 4 (omega arith));
+      steps = field-below line 6 4 (part 6 4 (omega arith));
+      r = field-below line 10 4 (part 10 4 (omega arith));
+      s = field-below line 14 4 (part 14 4 (omega arith));
+    } in
+    (ap judged (sym (g .1)) ∙ sym (read-digits line (g .0)) ∙ e, subst Typed (g .1) fields)
+
+-- a record with other steps
+abbrev pub withSteps : ℕ → Answer → Answer
+withSteps k a = record { status = a .status; flags = a .flags; steps = k; r = a .r; s = a .s }
+
+-- they are not judged, but after 1 to 5
+pub steps-free : (a : Answer) (k : ℕ) → between 1 5 (a .status) ≡ false → judged a ≡ Record a → judged (withSteps k a) ≡ Record (withSteps k a)
+unfolding judged
+steps-free a k = by (isStatus (a .status)) (outside (a .flags)) (between 1 5 (a .status)) (refusesDivide (a .status) && not (noResult a)) (not (allZeros a)) (not (allZeros (withSteps k a)))
+  where
+    by : (s f b z x y : Bool) → b ≡ false → cond (not s) (Refused Status) (cond f (Refused Flags) (cond ((b && x) || z) (Refused NotZero) (Record a))) ≡ Record a
+        → cond (not s) (Refused Status) (cond f (Refused Flags) (cond ((b && y) || z) (Refused NotZero) (Record (withSteps k a)))) ≡ Record (withSteps k a)
+    by s f true z x y e g = absurd (false≢true (sym e))
+    by true false false false x y e g = refl
+    by true false false true x y e g = absurd (false≢true (ap isRecord g))
+    by true true false z x y e g = absurd (false≢true (ap isRecord g))
+    by false f false z x y e g = absurd (false≢true (ap isRecord g))
 
 -- ---- one digit
 
@@ -141,17 +180,14 @@ module _ (line : List ℕ) (long : length line ≡ 18) where
   written-capitals : allDigits line ≡ true → textBy (recordIn line) ≡ capitals line ++ (0x0A ∷ [])
   unfolding written
   written-capitals h =
-      (λ i. two-part (take 2 line) (size 0 2 (omega arith)) (digits 0 2 (omega arith)) i ++ (field 2 (omega arith) i ++ (field 6 (omega arith) i ++ (field 10 (omega arith) i ++ (field 14 (omega arith) i ++ (0x0A ∷ []))))))
+      (λ i. two-part (take 2 line) (size 0 2 (omega arith)) (digits-of line long h 0 2 (omega arith)) i ++ (field 2 (omega arith) i ++ (field 6 (omega arith) i ++ (field 10 (omega arith) i ++ (field 14 (omega arith) i ++ (0x0A ∷ []))))))
       ∙ sym (ap (λ (l : List ℕ). capitals l ++ (0x0A ∷ [])) (sym parts) ∙ simp (capitals-append, append-assoc))
     where
       size : (i m : ℕ) → i + m ≤ 18 → length (take m (drop i line)) ≡ m
       size i m l = length-take-le m (drop i line) (simp length-drop (omega (arith, long)))
 
-      digits : (i m : ℕ) → i + m ≤ 18 → allDigits (take m (drop i line)) ≡ true
-      digits i m l = digits-within line 0 18 i m (ap allDigits (take-all 18 line (omega (arith, long))) ∙ h) (omega arith) (omega arith)
-
       field : (i : ℕ) → i + 4 ≤ 18 → four capitalOf (fieldAt i 4 line) ≡ capitals (take 4 (drop i line))
-      field i l = four-part (take 4 (drop i line)) (size i 4 l) (digits i 4 l)
+      field i l = four-part (take 4 (drop i line)) (size i 4 l) (digits-of line long h i 4 l)
 
 -- a good line, read and written again, is the same in capitals
 pub read-again : (line : List ℕ) (a : Answer) → readBack line ≡ Record a → textBy a ≡ capitals line ++ (0x0A ∷ [])
@@ -168,6 +204,56 @@ one-line l m a el em =
     eighteen : (line : List ℕ) → readBack line ≡ Record a → length (capitals line) ≡ 18
     eighteen line e = capitals-length line ∙ eqb-true (length line) 18 (both (eqb (length line) 18) (allDigits line) (good-line line a e .0) .0)
 
+-- ---- a line in capitals
+
+-- a letter is worth the same
+capital-worth : (b : ℕ) → digitOf (capital b) ≡ digitOf b
+capital-worth b = by (between 0x61 0x66 b) refl
+  where
+    by : (x : Bool) → between 0x61 0x66 b ≡ x → digitOf (cond x (b - 0x20) b) ≡ digitOf b
+    by true e =
+        let w = within 0x61 0x66 b e in
+        let back : b - 0x20 + 0x20 ≡ b = omega arith in
+        sym (small-letter (b - 0x20) (omega arith) (omega arith)) ∙ ap digitOf back
+    by false e = refl
+
+capitals-digits : (l : List ℕ) → allDigits (capitals l) ≡ allDigits l
+capitals-digits [] = refl
+capitals-digits (b ∷ l) =
+    let one : isDigit (capital b) ≡ isDigit b = sym (digit-below (capital b)) ∙ ap (λ (k : ℕ). ltb k 16) (capital-worth b) ∙ digit-below b in
+    λ i. one i && capitals-digits l i
+
+capitals-number : (l : List ℕ) → numberOf (capitals l) ≡ numberOf l
+capitals-number [] = refl
+capitals-number (b ∷ l) = λ i. capital-worth b i * 16 ^ capitals-length l i + capitals-number l i
+
+capitals-take : (m : ℕ) (l : List ℕ) → take m (capitals l) ≡ capitals (take m l)
+capitals-take zero l = refl
+capitals-take (suc m) [] = refl
+capitals-take (suc m) (b ∷ l) = ap (λ (t : List ℕ). capital b ∷ t) (capitals-take m l)
+
+capitals-drop : (i : ℕ) (l : List ℕ) → drop i (capitals l) ≡ capitals (drop i l)
+capitals-drop zero l = refl
+capitals-drop (suc i) [] = refl
+capitals-drop (suc i) (b ∷ l) = capitals-drop i l
+
+capitals-field : (i m : ℕ) (l : List ℕ) → fieldAt i m (capitals l) ≡ fieldAt i m l
+capitals-field i m l = ap (λ (t : List ℕ). numberOf (take m t)) (capitals-drop i l) ∙ ap numberOf (capitals-take m (drop i l)) ∙ capitals-number (take m (drop i l))
+
+-- either letter case is read alike, refused or not
+pub read-capitals : (line : List ℕ) → readBack (capitals line) ≡ readBack line
+unfolding readBack
+read-capitals line =
+    let same : recordIn (capitals line) ≡ recordIn line =
+    λ i. record {
+      status = capitals-field 0 2 line i;
+      flags = capitals-field 2 4 line i;
+      steps = capitals-field 6 4 line i;
+      r = capitals-field 10 4 line i;
+      s = capitals-field 14 4 line i;
+    } in
+    λ i. cond (not (eqb (capitals-length line i) 18)) (Refused Length) (cond (not (capitals-digits line i)) (Refused Digit) (judged (same i)))
+
 -- ---- a record, written and read
 
 capital-digit : (k : ℕ) → k < 16 → isDigit (capitalOf k) ≡ true
@@ -179,14 +265,6 @@ two-digits k rest h r = rw (capital-digit (k / 16) (omega arith), capital-digit 
 four-digits : (k : ℕ) (rest : List ℕ) → k < 0x1_0000 → allDigits rest ≡ true → allDigits (four capitalOf k ++ rest) ≡ true
 four-digits k rest h r =
     rw (capital-digit (k / 0x1000) (omega arith), capital-digit (k / 0x100 % 16) (omega arith), capital-digit (k / 0x10 % 16) (omega arith), capital-digit (k % 16) (omega arith), r)
-
-two-read : (k : ℕ) → k < 0x100 → numberOf (two capitalOf k) ≡ k
-two-read k h = rw (digit-read (k / 16) (omega arith), digit-read (k % 16) (omega arith)) (omega arith)
-
-four-read : (k : ℕ) → k < 0x1_0000 → numberOf (four capitalOf k) ≡ k
-four-read k h =
-    rw (digit-read (k / 0x1000) (omega arith), digit-read (k / 0x100 % 16) (omega arith), digit-read (k / 0x10 % 16) (omega arith), digit-read (k % 16) (omega arith))
-    (omega arith)
 
 module _ (a : Answer) (typed : Typed a) where
   line-digits : isDigits (lineOf a) ≡ true
@@ -202,11 +280,11 @@ module _ (a : Answer) (typed : Typed a) where
   unfolding written
   line-record =
       λ i. record {
-        status = two-read (a .status) (typed .status) i;
-        flags = four-read (a .flags) (typed .flags) i;
-        steps = four-read (a .steps) (typed .steps) i;
-        r = four-read (a .r) (typed .r) i;
-        s = four-read (a .s) (typed .s) i;
+        status = two-number capitalOf digit-read (a .status) (typed .status) i;
+        flags = four-number capitalOf digit-read (a .flags) (typed .flags) i;
+        steps = four-number capitalOf digit-read (a .steps) (typed .steps) i;
+        r = four-number capitalOf digit-read (a .r) (typed .r) i;
+        s = four-number capitalOf digit-read (a .s) (typed .s) i;
       }
 
   -- a record that no refusal fits, written and read, is itself

@@ -5,7 +5,8 @@ use Prim.Native.Nat.{ℕ}
 use Rattle.flags.specs.Word.{isFlags}
 use Rattle.flags.proofs.WordLaws.{is-masked}
 use Rattle.answer.specs.declared.answer.Answer.{Answer}
-use Rattle.record.specs.Judge.{isStatus, outside, notZero, judged, reasonOf}
+use Rattle.record.specs.Judge.{isStatus, outside, notZero, judged}
+use Rattle.record.specs.Quick.{reasonOf}
 use Rattle.record.specs.declared.judge.Refusal.the-variants.{Status, Flags, NotZero}
 use Rattle.record.specs.declared.judge.Read.{Read}
 use Rattle.record.specs.declared.judge.Read.the-variants.{Record, Refused}

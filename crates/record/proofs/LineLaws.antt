@@ -1,9 +1,8 @@
 -- Whether a line of a text is 18 digits, by the 18 bytes where it starts and what stands behind them. Assumes nothing.
 use mathlib.Core.Path.{_≡_, refl, sym, ap, _∙_}
-use mathlib.Core.Bool.{Bool, true, false, cond, _||_, false≢true}
-use mathlib.Core.List.{List, [], _∷_}
-use Prim.Native.Nat.{ℕ, suc, _+_, _<_, _≤_}
-use native.Mathlib.Nat.{le-of-suc-le-suc, not-suc-le-zero}
+use mathlib.Core.Bool.{Bool, true, false, _||_, false≢true}
+use mathlib.Core.List.{List}
+use Prim.Native.Nat.{ℕ, _+_, _<_, _≤_}
 use native.Mathlib.Omega.{arith}
 use lib.Dec.{eqb}
 use lib.ListN.{length, getD, take, drop, length-drop}
@@ -12,27 +11,9 @@ use borrow.Author.Tests.{eqb-true, eqb-false, ne-eqb}
 use Rattle.text.specs.Lines.{lineLength, lineAt}
 use Rattle.text.specs.Plain.{allDigits}
 use Rattle.text.proofs.LineLaws.{length-within}
-use Rattle.text.proofs.FoundLaws.{first-feed, both}
+use Rattle.text.proofs.FoundLaws.{first-feed, feed-behind, unbroken, both}
 use Rattle.text.proofs.DigitsAt.{digits-no-feed}
-use Rattle.record.specs.Judge.{isDigits}
-use Rattle.record.specs.Reader.{endsAt}
-
--- ---- where a line feed ends a line
-
-feed-by : (x : Bool) (b : ℕ) (t : List ℕ) → eqb b 0x0A ≡ x → (lineLength t < length t → getD t (lineLength t) 0 ≡ 0x0A)
-    → cond x 0 (suc (lineLength t)) < suc (length t) → getD (b ∷ t) (cond x 0 (suc (lineLength t))) 0 ≡ 0x0A
-feed-by true b t e r h = eqb-true b 0x0A e
-feed-by false b t e r h = r (le-of-suc-le-suc h)
-
--- behind a line that does not end with its text stands a line feed
-pub feed-behind : (t : List ℕ) → lineLength t < length t → getD t (lineLength t) 0 ≡ 0x0A
-feed-behind [] h = absurd (not-suc-le-zero h)
-feed-behind (b ∷ t) h = feed-by (eqb b 0x0A) b t refl (feed-behind t) h
-
--- a text without a line feed is one line
-unbroken : (t : List ℕ) → ((i : ℕ) → i < length t → getD t i 0 ≡ 0x0A → ⊥) → lineLength t ≡ length t
-unbroken [] h = refl
-unbroken (b ∷ t) h = rw (ne-eqb b 0x0A (h 0 (omega arith))) (ap suc (unbroken t (λ i l. h (suc i) (omega arith))))
+use Rattle.record.specs.Quick.{isDigits, endsAt}
 
 -- ---- the line that starts at a place
 

@@ -4,17 +4,19 @@ use mathlib.Core.Bool.{Bool, true, false, not, cond, _&&_, false≢true}
 use mathlib.Core.List.{List}
 use Prim.Native.Nat.{ℕ, _+_, _<_, _≤_}
 use native.Mathlib.Omega.{arith}
-use lib.Dec.{eqb}
+use lib.Dec.{ltb, eqb}
 use lib.ListN.{length, take, drop}
 use borrow.Author.Tests.{lt-ltb, le-ltb}
 use Rattle.text.specs.Lines.{lineLength, lineAt, takes}
 use Rattle.text.specs.Plain.{allDigits}
 use Rattle.answer.specs.declared.answer.Answer.{Answer}
-use Rattle.record.specs.Judge.{recordIn, judged, isDigits, readBack}
+use Rattle.record.specs.Judge.{recordIn, judged, readBack}
 use Rattle.record.specs.Reader.{handOut, nextAt}
+use Rattle.record.specs.Told.{turnBy, turnAt}
+use Rattle.record.specs.Quick.{isDigits}
 use Rattle.record.specs.declared.judge.Refusal.the-variants.{Length, Digit}
 use Rattle.record.specs.declared.judge.Read.{Read}
-use Rattle.record.specs.declared.judge.Read.the-variants.{Refused}
+use Rattle.record.specs.declared.judge.Read.the-variants.{Record, Refused}
 use Rattle.record.specs.declared.reader.Handed.the-variants.{End}
 use Rattle.record.specs.declared.reader.Stepped.{Stepped}
 use Rattle.record.proofs.LineLaws.{line-length, has-18}
@@ -52,6 +54,17 @@ module _ (text : List ℕ) (at : ℕ) where
   pub at-end : length text ≤ at → record { handed = End; place = at } ≡ nextAt text at
   unfolding nextAt
   at-end h = rw (le-ltb at (length text) h)
+
+  -- what a caller in another language is told moves the place alike
+  pub turn-place : (was : List ℕ) (start : ℕ) → turnAt text at was start .place ≡ nextAt text at .place
+  unfolding nextAt
+  turn-place was start = by (ltb at (length text)) (readBack (lineAt text at))
+    where
+      by : (x : Bool) (r : Read) → (let o : Stepped = cond x (stepped r at (at + takes true (drop at text))) (record { handed = End; place = at }) in
+          turnBy (o .handed) (o .place) at was start .place ≡ o .place)
+      by true (Record a) = refl
+      by true (Refused why) = refl
+      by false r = refl
 
   module _ (some : at < length text) where
     -- what was read of the line

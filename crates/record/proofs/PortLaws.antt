@@ -6,7 +6,7 @@ use mathlib.Core.List.{List, [], _∷_}
 use mathlib.Core.Logic.{inl, inr}
 use Prim.Native.Nat.{ℕ, _<_, _≤_}
 use native.Mathlib.Omega.{arith}
-use lib.Dec.{leb, eqb, lit<, lit≤}
+use lib.Dec.{leb, eqb, lit≤}
 use borrow.Author.Tests.{leb-true, eqb-true}
 use Rattle.flags.specs.Numbers.{between}
 use Rattle.flags.specs.Word.{wordOf, flagsOf, isFlags}
@@ -19,7 +19,7 @@ use Rattle.answer.specs.Charted.{refusalStatus}
 use Rattle.answer.specs.Refused.{Refusal, ZeroDivisor, TooWide, SignRange, refusal}
 use Rattle.answer.specs.Table.{OneOf}
 use Rattle.answer.specs.declared.answer.Answer.{Answer}
-use Rattle.answer.proofs.Words.{asked-words}
+use Rattle.answer.proofs.Words.{Words, asked-words, zeros-words}
 use Rattle.line.specs.One.{rawOf, answerBy, answerOf}
 use Rattle.line.specs.Table.{rawIn}
 use Rattle.line.proofs.Table.{line-no-other, line-zeros, line-demand-1}
@@ -52,17 +52,14 @@ module _ (line : List ℕ) where
   a = answerOf line
 
   -- the flags are flags, and each field fits its digits
-  abbrev Words : Answer → Type 0
-  Words b = (isFlags (b .flags) ≡ true) × (b .steps < 0x1_0000) × (b .r < 0x1_0000) × (b .s < 0x1_0000)
-
   words : Words a
-  unfolding answerOf isFlags flagsOf wordOf
+  unfolding answerOf
   words = by (readOf line)
     where
       by : (r : Read) → Words (answerBy r)
       by (OfFields f) = asked-words (rawOf f)
-      by Length = (refl, lit< tt, lit< tt, lit< tt)
-      by Digit = (refl, lit< tt, lit< tt, lit< tt)
+      by Length = zeros-words 1
+      by Digit = zeros-words 2
 
   done : a .status ≡ 0 → Sound a
   done e = (ap isStatus e, λ i. (between 1 5 (e i) && not (allZeros a)) || (refusesDivide (e i) && not (noResult a)))

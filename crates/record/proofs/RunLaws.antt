@@ -19,7 +19,8 @@ use Rattle.line.proofs.Turns.{textOf-length}
 use Rattle.line.proofs.Places.{answer-at}
 use Rattle.record.specs.Again.{lineOf}
 use Rattle.record.specs.Judge.{readBack}
-use Rattle.record.specs.Reader.{nextAt, endsAt}
+use Rattle.record.specs.Reader.{nextAt}
+use Rattle.record.specs.Quick.{endsAt}
 use Rattle.record.specs.declared.reader.Handed.the-variants.{Record as HandedRecord, End}
 use Rattle.record.proofs.LineLaws.{has-18, by-digits}
 use Rattle.record.proofs.NextLaws.{at-end, at-line}
@@ -71,7 +72,7 @@ module _ (text : List ℕ) (at : ℕ) (line : List ℕ) (there : take 19 (drop a
 
 -- ---- a run
 
--- of the bytes that a run wrote, each turn hands out the answer of the next line that it answered; and then they are at their end
+-- of the bytes that a run wrote, a reader hands out the answer of line k at byte 19k, and goes to the next; behind the last it is the end
 pub run-read : (room : ℕ) (e : Bool) (t o bytes : List ℕ) (lines used : ℕ) → done bytes lines used ≡ runOf room e t o
     → (let answers = take (lines * 19) bytes in
     ((k : ℕ) → k < lines → nextAt answers (k * 19) ≡ record { handed = HandedRecord (answerOf (getD (linesOf e t) k [])); place = suc k * 19 })

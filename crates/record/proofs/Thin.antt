@@ -1,4 +1,4 @@
--- The one walk of every function over a `&mut Reader` that calls a function on the slice and the number, stores the number that that returns, and returns its step. Such functions differ in the callee's name and in what it comes to.
+-- The one walk of every function over a `&mut Reader` that calls a function on the slice and the number, stores the number that that returns, and returns what is handed out. Such functions differ in the callee's name and in what it comes to.
 --     thin k           their MIR, at a callee's name
 --     thin-spec        the theorem of one, from its callee's
 -- Assumes nothing.

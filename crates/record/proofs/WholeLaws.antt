@@ -1,8 +1,8 @@
--- A whole text, read turn by turn: turn k hands out line k, which starts where the lines before it end; no byte is lost; and after as many turns as
--- the text has lines it is at its end. Assumes nothing.
+-- A whole text, read turn by turn: turn k hands out line k, which starts where the lines before it end; where it tells of a bad line, that line starts
+-- there; no byte is lost; and after as many turns as the text has lines it is at its end. Assumes nothing.
 use mathlib.Core.Path.{_≡_, refl, sym, ap, _∙_}
 use mathlib.Core.Logic.{_⊎_, inl, inr}
-use mathlib.Core.Bool.{Bool, true, false, cond}
+use mathlib.Core.Bool.{Bool, true, false, cond, false≢true}
 use mathlib.Core.List.{List, [], _∷_, _++_}
 use Prim.Native.Nat.{ℕ, zero, suc, _+_, _<_, _≤_, min}
 use native.Mathlib.Nat.{le-refl}
@@ -12,27 +12,28 @@ use lib.ListN.{length, getD, take, drop, length-drop, drop-of-length-le}
 use lib.Seq.{take-suc, drop-cons, take-all, split-at, drop-drop, drop-length}
 use borrow.Author.Tests.{ltb-true, ltb-false}
 use Rattle.text.specs.Lines.{lineLength, lineAt, takes, linesOf, bytesIn}
-use Rattle.text.proofs.NextLine.{takes-within, first-takes, first-line}
+use Rattle.text.proofs.FoundLaws.{feed-behind}
+use Rattle.text.proofs.NextLine.{takes-within, line-takes, first-takes, first-line, bytes-more}
 use Rattle.record.specs.Judge.{readBack}
 use Rattle.record.specs.Reader.{handOut, nextAt}
 use Rattle.record.specs.Whole.{placeAfter}
-use Rattle.record.specs.declared.reader.Handed.the-variants.{End}
+use Rattle.record.specs.declared.judge.Read.{Read}
+use Rattle.record.specs.declared.judge.Read.the-variants.{Record, Refused}
+use Rattle.record.specs.declared.reader.BadLine.{BadLine}
+use Rattle.record.specs.declared.reader.Handed.{Handed}
+use Rattle.record.specs.declared.reader.Handed.the-variants.{Record as HandedRecord, Bad, End}
 use Rattle.record.specs.declared.reader.Stepped.{Stepped}
-use Rattle.record.proofs.LineLaws.{feed-behind}
 use Rattle.record.proofs.NextLaws.{stepped, at-end, at-line}
 
--- where a byte is left, a line is
-line-takes : (t : List ℕ) → 0 < length t → 0 < takes true t
-line-takes t h = by (ltb (lineLength t) (length t))
-  where
-    by : (x : Bool) → 0 < cond x (suc (lineLength t)) (length t)
-    by true = omega arith
-    by false = h
+abbrev isBad : Handed → Bool
+isBad (HandedRecord a) = false
+isBad (Bad bad) = true
+isBad End = false
 
--- one line more
-bytes-more : (lines : List (List ℕ)) (line : List ℕ) → bytesIn (lines ++ (line ∷ [])) ≡ bytesIn lines + suc (length line)
-bytes-more [] line = omega arith
-bytes-more (first ∷ lines) line = omega (arith, bytes-more lines line)
+abbrev badOf : BadLine → Handed → BadLine
+badOf other (HandedRecord a) = other
+badOf other (Bad bad) = bad
+badOf other End = other
 
 module _ (text : List ℕ) where
   abbrev lines : List (List ℕ)
@@ -120,7 +121,7 @@ module _ (text : List ℕ) where
             inl (split-at here size 0 in-text ∙ (λ i. take size here ++ (feed-behind here in-text i ∷ after i)))
         by false e = inr (sym (take-all size here (ltb-false size (length here) e)), simp length-drop (omega (arith, some-here)))
 
-  -- before the place stand the lines before it, each with its line feed
+  -- before the place stand the lines before it, each with its line feed, as far as the text goes
   pub starts-there : (k : ℕ) → k ≤ length lines → placeAfter text k ≡ min (bytesIn (take k lines)) (length text)
   starts-there zero h = omega arith
   starts-there (suc k) h =
@@ -131,6 +132,25 @@ module _ (text : List ℕ) where
       first-takes true (drop p text) (some-left p some) ∙ ap (λ (l : List ℕ). min (suc (length l)) (length (drop p text))) (line-there k h) in
       let bytes : bytesIn (take (suc k) lines) ≡ bytesIn (take k lines) + suc (length line) = ap bytesIn (take-suc lines k [] h) ∙ bytes-more (take k lines) line in
       omega (arith, next-place k h, taken, bytes, starts-there k (omega arith), some, length-drop p text)
+
+  -- where turn k tells of a bad line, it is line k, which starts at the byte that is told, behind the lines before it, and is refused for the reason
+  -- that is told
+  pub told-start : (k : ℕ) → k < length lines → (bad : BadLine) → nextAt text (placeAfter text k) .handed ≡ Bad bad
+      → (bad .start ≡ bytesIn (take k lines)) × (lineAt text (bad .start) ≡ getD lines k []) × (readBack (getD lines k []) ≡ Refused (bad .why))
+  told-start k more bad e = by (readBack (getD lines k [])) (sym (hands-out k more) ∙ e)
+    where
+      p : ℕ
+      p = placeAfter text k
+
+      starts : p ≡ bytesIn (take k lines)
+      starts = omega (arith, starts-there k (omega arith), some-here k more)
+
+      by : (r : Read) → handOut r p ≡ Bad bad → (bad .start ≡ bytesIn (take k lines)) × (lineAt text (bad .start) ≡ getD lines k []) × (r ≡ Refused (bad .why))
+      by (Record a) q = absurd (false≢true (ap isBad q))
+      by (Refused why) q =
+          let same : record { why = why; start = p } ≡ bad = ap (badOf bad) q in
+          let at : bad .start ≡ p = sym (ap (λ (b : BadLine). b .start) same) in
+          (at ∙ starts, ap (lineAt text) at ∙ line-there k more, ap (λ (b : BadLine). Refused (b .why)) same)
 
   -- a text is read to its end in as many turns as it has lines
   pub then-the-end : (placeAfter text (length lines) ≡ length text) × (nextAt text (length text) ≡ record { handed = End; place = length text })

@@ -42,18 +42,10 @@ allZeros a = eqb (a .flags) 0 && eqb (a .steps) 0 && noResult a
 abbrev pub notZero : Answer → Bool
 notZero a = (between 1 5 (a .status) && not (allZeros a)) || (refusesDivide (a .status) && not (noResult a))
 
--- of a record: the status, then the flags, then the zeros. Steps are not judged
+-- of a record: the status, then the flags, then the zeros. Steps are not judged, but that they are 0 after 1 to 5
 unfoldable pub judged : Answer → Read
 judged a =
     cond (not (isStatus (a .status))) (Refused Status) (cond (outside (a .flags)) (Refused Flags) (cond (notZero a) (Refused NotZero) (Record a)))
-
--- which of the three it is, of a record that is refused
-abbrev pub reasonOf : Answer → Refusal
-reasonOf a = cond (not (isStatus (a .status))) Status (cond (outside (a .flags)) Flags NotZero)
-
--- 18 digits
-abbrev pub isDigits : List ℕ → Bool
-isDigits line = eqb (length line) 18 && allDigits line
 
 -- of a line, before these: its length, then its digits
 unfoldable pub readBack : List ℕ → Read

@@ -4,3 +4,4 @@ pub mod Reader
 pub mod Told
 pub mod Again
 pub mod Whole
+pub mod Quick

@@ -1,9 +1,9 @@
 -- A reader of many answer lines: what it hands out at a place of a text, and the place where it stands then. Assumes nothing.
-use mathlib.Core.Bool.{Bool, true, cond, _||_}
+use mathlib.Core.Bool.{true, cond}
 use mathlib.Core.List.{List}
 use Prim.Native.Nat.{ℕ, _+_}
-use lib.Dec.{ltb, eqb}
-use lib.ListN.{length, getD, drop}
+use lib.Dec.{ltb}
+use lib.ListN.{length, drop}
 use Rattle.text.specs.Lines.{lineAt, takes}
 use Rattle.record.specs.Judge.{readBack}
 use Rattle.record.specs.declared.judge.Read.{Read}
@@ -24,7 +24,3 @@ nextAt text at =
     cond (ltb at (length text))
     (record { handed = handOut (readBack (lineAt text at)) at; place = at + takes true (drop at text) })
     (record { handed = End; place = at })
-
--- a line that reaches so far ends there: the text does, or a line feed stands there
-abbrev pub endsAt : List ℕ → ℕ → Bool
-endsAt text at = eqb at (length text) || eqb (getD text at 0) 0x0A

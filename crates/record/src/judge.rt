@@ -1,6 +1,7 @@
 // What is refused of a record, whose digits are all there.
 ghost use mathlib.Core.Path.{_≡_};
-ghost use Rattle.record.specs.Judge.{isStatus, notZero, judged, reasonOf, refusalStatus};
+ghost use Rattle.record.specs.Judge.{isStatus, notZero, judged, refusalStatus};
+ghost use Rattle.record.specs.Quick.{reasonOf};
 use answer::answer::Answer;
 use flags::word::Flags;
 

@@ -21,11 +21,11 @@ pub fn record_at(text: &[u8], at: usize) -> Answer
     ensures { λ r. ⌜ r ≡ recordIn (take 18 (drop at (now (text .entry)))) ⌝ }
 {
     Answer {
-        status: numbers::two_at(text, at),
-        flags: numbers::four_at(text, at + 2),
-        steps: numbers::four_at(text, at + 6),
-        r: numbers::four_at(text, at + 10),
-        s: numbers::four_at(text, at + 14),
+        status: numbers::two_digits(text, at),
+        flags: numbers::four_digits(text, at + 2),
+        steps: numbers::four_digits(text, at + 6),
+        r: numbers::four_digits(text, at + 10),
+        s: numbers::four_digits(text, at + 14),
     }
 }
 

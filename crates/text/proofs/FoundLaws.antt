@@ -3,11 +3,12 @@ use mathlib.Core.Path.{_≡_, refl, sym, ap, subst, _∙_}
 use mathlib.Core.Bool.{Bool, true, false, cond, _&&_, false≢true}
 use mathlib.Core.List.{List, [], _∷_}
 use Prim.Native.Nat.{ℕ, zero, suc, _+_, _-_, _*_, _/_, _%_, _<_, _≤_}
+use native.Mathlib.Nat.{le-of-suc-le-suc, not-suc-le-zero}
 use native.Mathlib.Omega.{arith}
 use lib.Dec.{ltb, eqb}
 use lib.ListN.{length, getD, take, drop, length-drop}
 use lib.Seq.{getD-take, getD-drop, length-take-le}
-use borrow.Author.Tests.{eq-eqb, ne-eqb}
+use borrow.Author.Tests.{eqb-true, eq-eqb, ne-eqb}
 use Rattle.text.specs.Digits.{digitOf}
 use Rattle.text.specs.Fields.{fourOf, fourAt, fieldsOf, fieldsAt, readOf}
 use Rattle.text.specs.Lines.{lineLength, foundOf}
@@ -21,6 +22,21 @@ first-feed [] n h before e = absurd (omega arith)
 first-feed (b ∷ t) zero h before e = rw (eq-eqb b 0x0A e)
 first-feed (b ∷ t) (suc n) h before e =
     rw (ne-eqb b 0x0A (before 0 (omega arith))) (ap suc (first-feed t n (omega arith) (λ i p. before (suc i) (omega arith)) e))
+
+feed-by : (x : Bool) (b : ℕ) (t : List ℕ) → eqb b 0x0A ≡ x → (lineLength t < length t → getD t (lineLength t) 0 ≡ 0x0A)
+    → cond x 0 (suc (lineLength t)) < suc (length t) → getD (b ∷ t) (cond x 0 (suc (lineLength t))) 0 ≡ 0x0A
+feed-by true b t e r h = eqb-true b 0x0A e
+feed-by false b t e r h = r (le-of-suc-le-suc h)
+
+-- behind a line that does not end with its text stands a line feed
+pub feed-behind : (t : List ℕ) → lineLength t < length t → getD t (lineLength t) 0 ≡ 0x0A
+feed-behind [] h = absurd (not-suc-le-zero h)
+feed-behind (b ∷ t) h = feed-by (eqb b 0x0A) b t refl (feed-behind t) h
+
+-- a text without a line feed is one line
+pub unbroken : (t : List ℕ) → ((i : ℕ) → i < length t → getD t i 0 ≡ 0x0A → ⊥) → lineLength t ≡ length t
+unbroken [] h = refl
+unbroken (b ∷ t) h = rw (ne-eqb b 0x0A (h 0 (omega arith))) (ap suc (unbroken t (λ i l. h (suc i) (omega arith))))
 
 pub both : (x y : Bool) → x && y ≡ true → (x ≡ true) × (y ≡ true)
 both true y e = (refl, e)

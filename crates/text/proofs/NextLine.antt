@@ -10,7 +10,7 @@ use lib.Dec.{leb, ltb, eqb, lit<}
 use lib.ListN.{length, take, drop, length-append, length-drop, drop-of-length-le}
 use lib.Seq.{take-all, length-take-le, take-append-le, drop-append-le}
 use borrow.Author.Tests.{lt-ltb, le-ltb, ltb-true, ltb-false, leb-true, leb-false}
-use Rattle.text.specs.Lines.{lineLength, lineAt, lineEnd, nextOf, takes, withByte, linesOf}
+use Rattle.text.specs.Lines.{lineLength, lineAt, lineEnd, nextOf, takes, withByte, linesOf, bytesIn}
 use Rattle.text.proofs.LineLaws.{length-within}
 
 take-by : (x e : Bool) (t : List ℕ) → ltb (lineLength t) (length t) ≡ x → cond x (suc (lineLength t)) (cond e (length t) 0) ≤ length t
@@ -20,6 +20,14 @@ take-by false false t q = omega arith
 
 pub takes-within : (e : Bool) (t : List ℕ) → takes e t ≤ length t
 takes-within e t = take-by (ltb (lineLength t) (length t)) e t refl
+
+-- where a byte is left, a line is
+pub line-takes : (t : List ℕ) → 0 < length t → 0 < takes true t
+line-takes t h = by (ltb (lineLength t) (length t))
+  where
+    by : (x : Bool) → 0 < cond x (suc (lineLength t)) (length t)
+    by true = omega arith
+    by false = h
 
 -- a first line's bytes and its line feed, as far as the text goes
 size-by : (x e : Bool) (l n : ℕ) → ltb l n ≡ x → 0 < cond x (suc l) (cond e n 0) → cond x (suc l) (cond e n 0) ≡ min (suc l) n
@@ -106,6 +114,11 @@ first-by false true (b ∷ t) q h =
 -- else the first line, and those of what follows it
 pub first-line : (e : Bool) (t : List ℕ) → 0 < takes e t → linesOf e t ≡ lineAt t 0 ∷ linesOf e (drop (takes e t) t)
 first-line e t h = first-by (ltb (lineLength t) (length t)) e t refl h
+
+-- the bytes of one line more
+pub bytes-more : (lines : List (List ℕ)) (line : List ℕ) → bytesIn (lines ++ (line ∷ [])) ≡ bytesIn lines + suc (length line)
+bytes-more [] line = omega arith
+bytes-more (first ∷ lines) line = omega (arith, bytes-more lines line)
 
 -- ---- a text before another
 

@@ -9,7 +9,8 @@ use lib.ListN.{length, getD}
 use borrow.Author.Tests.{ltb-true, ltb-false, lt-ltb, le-leb, lt-leb}
 use Rattle.text.specs.Digits.{digitOf, capitalOf}
 use Rattle.text.specs.Fields.{fourOf, fourAt}
-use Rattle.text.specs.Written.{four, written}
+use Rattle.text.specs.Plain.{numberOf}
+use Rattle.text.specs.Written.{two, four, written}
 
 pub written-length : (letter : ℕ → ℕ) (status flags steps r s : ℕ) → length (written letter status flags steps r s) ≡ 19
 unfolding written
@@ -64,6 +65,14 @@ module _ (letter : ℕ → ℕ) (reads : (k : ℕ) → k < 16 → digitOf (lette
       let c : k / 0x10 % 16 < 16 = omega arith in
       let d : k % 16 < 16 = omega arith in
       simp (reads _ a, reads _ b, reads _ c, reads _ d, lt-ltb _ _ a, lt-ltb _ _ b, lt-ltb _ _ c, lt-ltb _ _ d) (omega arith)
+
+  -- the same in plain words: the number that the digits stand for
+  pub two-number : (k : ℕ) → k < 0x100 → numberOf (two letter k) ≡ k
+  two-number k h = rw (reads (k / 16) (omega arith), reads (k % 16) (omega arith)) (omega arith)
+
+  pub four-number : (k : ℕ) → k < 0x1_0000 → numberOf (four letter k) ≡ k
+  four-number k h =
+      rw (reads (k / 0x1000) (omega arith), reads (k / 0x100 % 16) (omega arith), reads (k / 0x10 % 16) (omega arith), reads (k % 16) (omega arith)) (omega arith)
 
   module _ (status flags steps r s : ℕ) where
     pub status-read : status < 0x100

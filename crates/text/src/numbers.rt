@@ -39,7 +39,7 @@ fn value(byte: u8) -> u8
 }
 
 // The number of the two digits from `at` on.
-pub fn two_at(text: &[u8], at: usize) -> u8
+pub fn two_digits(text: &[u8], at: usize) -> u8
     requires { ⌜ at + 2 ≤ length (now text) ⌝ }
     requires { ⌜ allDigits (take 2 (drop at (now text))) ≡ true ⌝ }
     ensures { λ r. ⌜ r ≡ fieldAt at 2 (now (text .entry)) ⌝ }
@@ -48,10 +48,10 @@ pub fn two_at(text: &[u8], at: usize) -> u8
 }
 
 // The number of the four digits from `at` on.
-pub fn four_at(text: &[u8], at: usize) -> u16
+pub fn four_digits(text: &[u8], at: usize) -> u16
     requires { ⌜ at + 4 ≤ length (now text) ⌝ }
     requires { ⌜ allDigits (take 4 (drop at (now text))) ≡ true ⌝ }
     ensures { λ r. ⌜ r ≡ fieldAt at 4 (now (text .entry)) ⌝ }
 {
-    two_at(text, at) as u16 * 0x100 + two_at(text, at + 2) as u16
+    two_digits(text, at) as u16 * 0x100 + two_digits(text, at + 2) as u16
 }

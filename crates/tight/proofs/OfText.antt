@@ -43,11 +43,11 @@ module _ {M : Type 1} where
   pub numbers-all-digits : Tight M numbers.all_digits.signature numbers.all_digits.clauses
   numbers-all-digits c g r s = plainly (c .𝓤) (λ e d. (same e d, refl))
 
-  pub numbers-two-at : Tight M numbers.two_at.signature numbers.two_at.clauses
-  numbers-two-at c g r s = plainly (c .𝓤) (λ e d. (same e d, refl))
+  pub numbers-two-digits : Tight M numbers.two_digits.signature numbers.two_digits.clauses
+  numbers-two-digits c g r s = plainly (c .𝓤) (λ e d. (same e d, refl))
 
-  pub numbers-four-at : Tight M numbers.four_at.signature numbers.four_at.clauses
-  numbers-four-at c g r s = plainly (c .𝓤) (λ e d. (same e d, refl))
+  pub numbers-four-digits : Tight M numbers.four_digits.signature numbers.four_digits.clauses
+  numbers-four-digits c g r s = plainly (c .𝓤) (λ e d. (same e d, refl))
 
   pub written-write : Tight M written.write.signature written.write.clauses
   written-write c g r s = plainly (c .𝓤) (λ e d. (refl, λ i. (tt, (tt, (tt, (tt, (tt, (tt, (same e d i, tt)))))))))

@@ -2,7 +2,8 @@
 use mathlib.Core.Path.{_≡_, ap, _∙_}
 use mathlib.Core.Bool.{Bool, not, cond, _&&_}
 use borrow.Author.Needs.{needs}
-use Rattle.record.specs.Judge.{judged, reasonOf}
+use Rattle.record.specs.Judge.{judged}
+use Rattle.record.specs.Quick.{reasonOf}
 use Rattle.record.specs.declared.judge.Read.the-variants.{Record, Refused}
 use Rattle.record.specs.declared.judge.Refusal.{Refusal}
 use Rattle.record.proofs.JudgeLaws.{judged-by}

@@ -26,11 +26,11 @@ returns c =
     let a = t .before .before .before .args in
     let at : (i m : ℕ) → i + m ≤ 18 → _ = field-part (a .text .now) (a .at) 18 in
     λ i. record {
-      status = (t .before .two-at .ensures ∙ sym (at 0 2 (omega arith) ∙ ap (λ (k : ℕ). fieldAt k 2 (a .text .now)) (add-zero (a .at)))) i;
-      flags = (t .four-at .ensures ∙ sym (at 2 4 (omega arith))) i;
-      steps = (c .before .before .four-at2 .ensures ∙ sym (at 6 4 (omega arith))) i;
-      r = (c .before .four-at3 .ensures ∙ sym (at 10 4 (omega arith))) i;
-      s = (c .four-at4 .ensures ∙ sym (at 14 4 (omega arith))) i;
+      status = (t .before .two-digits .ensures ∙ sym (at 0 2 (omega arith) ∙ ap (λ (k : ℕ). fieldAt k 2 (a .text .now)) (add-zero (a .at)))) i;
+      flags = (t .four-digits .ensures ∙ sym (at 2 4 (omega arith))) i;
+      steps = (c .before .before .four-digits2 .ensures ∙ sym (at 6 4 (omega arith))) i;
+      r = (c .before .four-digits3 .ensures ∙ sym (at 10 4 (omega arith))) i;
+      s = (c .four-digits4 .ensures ∙ sym (at 14 4 (omega arith))) i;
     }
 
 pub record-at-spec : {M : Type 1} → statement M

@@ -7,11 +7,11 @@ use borrow.Author.Needs.{needs}
 use borrow.Author.Tests.{not-true, not-false}
 use Rattle.text.specs.Lines.{lineAt}
 use Rattle.text.proofs.NextLine.{next-takes}
-use Rattle.record.specs.Judge.{isDigits}
 use Rattle.record.proofs.LineLaws.{has-18, digits-there}
 use Rattle.record.proofs.NextLaws.{at-end, at-line, at-digits}
 use Rattle.record.proofs.reader.next_at.Statement.{statement}
 use Rattle.record.proofs.reader.next_at.Tie as tie
+use Rattle.record.specs.Quick.{isDigits}
 
 returns : tie.Need-returns
 returns c = at-end _ _ (c .if1 .taken)

@@ -1,4 +1,4 @@
--- `text::numbers::two_at` meets its contract: each of the two is a digit, and its number below 16. Assumes nothing.
+-- `text::numbers::two_digits` meets its contract: each of the two is a digit, and its number below 16. Assumes nothing.
 use mathlib.Core.Path.{_≡_}
 use mathlib.Core.Bool.{true}
 use Prim.Native.Nat.{ℕ, _+_, _≤_, _<_}
@@ -8,8 +8,8 @@ use borrow.Author.Needs.{needs}
 use Rattle.text.specs.Plain.{isDigit}
 use Rattle.text.proofs.DigitsAt.{digit-in, field-two}
 use Rattle.text.proofs.Plain.{is-below}
-use Rattle.text.proofs.numbers.two_at.Statement.{statement}
-use Rattle.text.proofs.numbers.two_at.Tie as tie
+use Rattle.text.proofs.numbers.two_digits.Statement.{statement}
+use Rattle.text.proofs.numbers.two_digits.Tie as tie
 
 module _ (c : tie.Start) where
   abbrev at : ℕ
@@ -44,7 +44,7 @@ returns c =
     let a = c .before .before .before .before .before .args in
     omega (arith, c .before .before .value .ensures, c .value2 .ensures, field-two (a .text .now) (a .at) (omega arith))
 
-pub two-at-spec : {M : Type 1} → statement M
-two-at-spec =
+pub two-digits-spec : {M : Type 1} → statement M
+two-digits-spec =
     tie.close
     (tie.spec (λ c. search needs) (λ c κs. first (c .before .before)) (λ c. omega (arith, first-below c)) (λ c. search needs) (λ c. search needs) (λ c κs. second (c .before .before .before .before)) add-result returns)
