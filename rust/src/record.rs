@@ -2,8 +2,8 @@
 //!
 //! An answer line is 18 hexadecimal digits, as [`answer_all`](crate::answer_all) and the program write them;
 //! small letters are read too. [`records`] goes through a text of many lines, past those that cannot be
-//! read. Here the answers of two days are held to each other. A line that cannot be read is the same as no
-//! other, and neither is one that the other text does not have:
+//! read. Here the answers of two days are held to each other. A line that cannot be read counts as different
+//! from every other, and so does one that the other text does not have:
 //!
 //! ```
 //! use hatchyarn::record::{self, BadLine, Record};
@@ -113,7 +113,7 @@ impl Record {
         matches!(self.0.status, 6 | 8 | 9)
     }
 
-    /// The answer or the refusal that the line was written for.
+    /// The answer or the refusal that the record stands for.
     ///
     /// ```
     /// use hatchyarn::record::Record;
