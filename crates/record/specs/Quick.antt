@@ -19,6 +19,6 @@ isDigits line = eqb (length line) 18 && allDigits line
 abbrev pub endsAt : List ℕ → ℕ → Bool
 endsAt text at = eqb at (length text) || eqb (getD text at 0) 0x0A
 
--- why a record is refused that is
+-- of a record that is refused, why
 abbrev pub reasonOf : Answer → Refusal
 reasonOf a = cond (not (isStatus (a .status))) Status (cond (outside (a .flags)) Flags NotZero)

@@ -113,6 +113,7 @@ pub fn next_at(text: &[u8], at: usize) -> Stepped
     }
 }
 
+// Hands out the next line, and moves the reader past it.
 pub fn next<'a>(r: &mut Reader<'a>) -> Handed
     ensures { λ s. ⌜ (s ≡ nextAt (now (now (r .entry) .text)) (now (r .entry) .at) .handed)
         × (now (r .exit) .text ≡ now (r .entry) .text)
