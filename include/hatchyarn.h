@@ -137,6 +137,31 @@ uint8_t hatchyarn_ask(uint8_t op, uint8_t mode, uint16_t flags, uint32_t x, uint
                       struct hatchyarn_answer *answer);
 
 /*
+ * Whether a divide would trap, for whoever needs that of many divides and nothing else: no quotient is
+ * worked out. *trap becomes 0 or 1. It is 0 exactly where hatchyarn_ask, given HATCHYARN_OP_DIVIDE, the same
+ * mode and operands and any sum of bits of hatchyarn_flag, returns HATCHYARN_DONE. N is the divisor's width,
+ * 8 or 16, and a magnitude is a number without its sign; the divide traps exactly where the dividend's is at least
+ *
+ *   2^N times the divisor's         unsigned;
+ *   2^(N-1) times the divisor's     signed. The most negative dividend has the magnitude 2^(2N-1).
+ *
+ * So a divisor of 0 always traps. The mode is the sum of bits of hatchyarn_mode. HATCHYARN_MODE_REP may be
+ * among them, and changes nothing.
+ *
+ * Returns the first of these that applies, and *trap is written whichever it is:
+ *
+ *   HATCHYARN_BAD_MODE     the mode has a bit above 0x04. *trap is 1
+ *   HATCHYARN_TOO_LARGE    at 8 bits, the dividend is over 0xFFFF or the divisor over 0xFF; at 16 bits neither
+ *                          can be. *trap is 1
+ *   HATCHYARN_DONE         else. *trap says whether the divide would trap
+ *
+ * So whoever looks at *trap alone takes a divide that cannot be asked for closed, and never for open. But a
+ * number that is wider than its parameter is cut by C itself, before the call. `trap` must always lead to a
+ * byte. examples/list.c, in the sources, tells of each key of a list whether it is closed.
+ */
+uint8_t hatchyarn_would_trap(uint8_t mode, uint32_t dividend, uint16_t divisor, uint8_t *trap);
+
+/*
  * Answers one request line of `length` bytes, given without its line feed. Returns the line's status.
  * The first 19 bytes of `out` then hold the answer line and the rest of its `room` bytes are as they
  * were. Where `room` is under 19, returns HATCHYARN_NO_ROOM and writes nothing.

@@ -137,6 +137,79 @@ static void closed(void)
                "hatchyarn_divide_refused is not true of exactly 6, 8 and 9");
 }
 
+/* Divides on both sides of their borders, and some that cannot be asked. Each is the same under REP. */
+static const struct divide {
+    const char *words;
+    uint32_t dividend;
+    uint16_t divisor;
+    uint8_t mode, status, trap;
+} divides[] = {
+    {"signed FF81 / 01", 0xFF81, 0x01, 0x02, HATCHYARN_DONE, 0},
+    {"signed FF80 / 01", 0xFF80, 0x01, 0x02, HATCHYARN_DONE, 1},
+    {"signed 027F / 05", 0x027F, 0x05, 0x02, HATCHYARN_DONE, 0},
+    {"signed 0280 / 05", 0x0280, 0x05, 0x02, HATCHYARN_DONE, 1},
+    {"signed FD81 / FB", 0xFD81, 0xFB, 0x02, HATCHYARN_DONE, 0},
+    {"signed FD80 / FB", 0xFD80, 0xFB, 0x02, HATCHYARN_DONE, 1},
+    {"signed 3FFF / 80", 0x3FFF, 0x80, 0x02, HATCHYARN_DONE, 0},
+    {"signed 4000 / 80", 0x4000, 0x80, 0x02, HATCHYARN_DONE, 1},
+    {"04FF / 05", 0x04FF, 0x05, 0x00, HATCHYARN_DONE, 0},
+    {"0500 / 05", 0x0500, 0x05, 0x00, HATCHYARN_DONE, 1},
+    {"FEFF / FF", 0xFEFF, 0xFF, 0x00, HATCHYARN_DONE, 0},
+    {"FF00 / FF", 0xFF00, 0xFF, 0x00, HATCHYARN_DONE, 1},
+    {"signed 00027FFF / 0005", 0x27FFF, 5, 0x03, HATCHYARN_DONE, 0},
+    {"signed 00028000 / 0005", 0x28000, 5, 0x03, HATCHYARN_DONE, 1},
+    {"signed FFFD8001 / FFFB", 0xFFFD8001, 0xFFFB, 0x03, HATCHYARN_DONE, 0},
+    {"signed FFFD8000 / FFFB", 0xFFFD8000, 0xFFFB, 0x03, HATCHYARN_DONE, 1},
+    {"signed 3FFFFFFF / 8000", 0x3FFFFFFF, 0x8000, 0x03, HATCHYARN_DONE, 0},
+    {"signed 40000000 / 8000", 0x40000000, 0x8000, 0x03, HATCHYARN_DONE, 1},
+    {"0004FFFF / 0005", 0x4FFFF, 5, 0x01, HATCHYARN_DONE, 0},
+    {"00050000 / 0005", 0x50000, 5, 0x01, HATCHYARN_DONE, 1},
+    {"FFFEFFFF / FFFF", 0xFFFEFFFF, 0xFFFF, 0x01, HATCHYARN_DONE, 0},
+    {"FFFF0000 / FFFF", 0xFFFF0000, 0xFFFF, 0x01, HATCHYARN_DONE, 1},
+
+    {"0000 / 00", 0, 0, 0x00, HATCHYARN_DONE, 1},
+    {"signed 0000 / 00", 0, 0, 0x02, HATCHYARN_DONE, 1},
+    {"00000007 / 0000", 7, 0, 0x01, HATCHYARN_DONE, 1},
+    {"signed 00000007 / 0000", 7, 0, 0x03, HATCHYARN_DONE, 1},
+    {"the most negative dividend", 0x8000, 0x80, 0x02, HATCHYARN_DONE, 1},
+    {"the same, by 7F", 0x8000, 0x7F, 0x02, HATCHYARN_DONE, 1},
+    {"the most negative dividend of 32 bits", 0x80000000, 0x8000, 0x03, HATCHYARN_DONE, 1},
+    {"the same, by 7FFF", 0x80000000, 0x7FFF, 0x03, HATCHYARN_DONE, 1},
+
+    /* at 8 bits too large, though the bits that there is room for would not trap */
+    {"00010007 / 02", 0x10007, 0x02, 0x00, HATCHYARN_TOO_LARGE, 1},
+    {"signed 80000007 / 02", 0x80000007, 0x02, 0x02, HATCHYARN_TOO_LARGE, 1},
+    {"0007 / 0102", 0x0007, 0x0102, 0x00, HATCHYARN_TOO_LARGE, 1},
+    {"signed 0007 / 8002", 0x0007, 0x8002, 0x02, HATCHYARN_TOO_LARGE, 1},
+    {"00010007 / 00", 0x10007, 0x00, 0x00, HATCHYARN_TOO_LARGE, 1},
+    {"the same at 16 bits", 0x10007, 0x0102, 0x01, HATCHYARN_DONE, 0},
+
+    {"mode 08", 0x0007, 0x02, 0x08, HATCHYARN_BAD_MODE, 1},
+    {"mode 81", 0x0007, 0x02, 0x81, HATCHYARN_BAD_MODE, 1},
+    {"mode 08, and too large", 0x10007, 0x0102, 0x08, HATCHYARN_BAD_MODE, 1},
+    {"mode FA, and a divisor of 0", 0x0007, 0x00, 0xFA, HATCHYARN_BAD_MODE, 1},
+};
+enum { DIVIDES = sizeof divides / sizeof *divides };
+
+/* Trap is written whatever stood there, and the bytes around it are as they were. */
+static void would_trap(void)
+{
+    for (const struct divide *each = divides; each < divides + DIVIDES; each++)
+        for (unsigned before = 0; before <= UINT8_MAX; before++) {
+            const uint8_t rep = before % 2 == 0 ? 0 : HATCHYARN_MODE_REP;
+            uint8_t lent[] = {'?', '?', (uint8_t)before, '?', '?'};
+            struct hatchyarn_answer a;
+
+            expect(hatchyarn_would_trap(each->mode ^ rep, each->dividend, each->divisor, &lent[2]) == each->status
+                       && lent[2] == each->trap, each->words);
+            expect(lent[0] == '?' && lent[1] == '?' && lent[3] == '?' && lent[4] == '?', each->words);
+            uint8_t asked = hatchyarn_ask(HATCHYARN_OP_DIVIDE, each->mode ^ rep, before % 3 == 0 ? 0x08D5 : 0,
+                                          each->dividend, each->divisor, &a);
+            expect(each->trap == (asked != HATCHYARN_DONE), each->words);
+            expect(each->status == (hatchyarn_divide_refused(asked) ? HATCHYARN_DONE : asked), each->words);
+        }
+}
+
 /* A loan from day 738123, of 28 days, to day 738151. */
 static const uint8_t day[] = {0x23, 0x81, 0x73}, days[] = {0x28, 0x00, 0x00}, due[] = {0x51, 0x81, 0x73};
 
@@ -418,6 +491,7 @@ int main(void)
     runs();
     refusals();
     closed();
+    would_trap();
     packed_sums();
     packed_pieces();
     packed_refusals();

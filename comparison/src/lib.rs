@@ -20,6 +20,7 @@ pub mod refused_flags;
 pub mod section;
 pub mod sides;
 pub mod tally;
+pub mod trap;
 
 mod bytes;
 mod judged;

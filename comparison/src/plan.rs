@@ -5,6 +5,7 @@ use crate::form::Form;
 use crate::lines::sections as lines;
 use crate::packed::sections as packed;
 use crate::section::Section;
+use crate::trap::sections as trap;
 use crate::{bytes, judged, refused, words};
 
 pub fn sections(form: Form) -> Vec<Section> {
@@ -38,5 +39,11 @@ pub fn sections(form: Form) -> Vec<Section> {
         answers::faults(form),
         over_texts::places(form),
         over_texts::of_runs(form),
+        trap::bytes(form),
+        trap::words(form),
+        trap::borders(form),
+        trap::limits(form),
+        trap::martypc(form),
+        trap::befores(form),
     ]
 }

@@ -13,7 +13,7 @@ type Part = Box<dyn Fn(u64, &mut Tally) + Sync>;
 
 pub struct Section {
     pub name: &'static str,
-    /// What is counted: requests, or calls over text, packed digits or answer lines.
+    /// What is counted: requests, or calls of the other functions.
     pub unit: &'static str,
     parts: u64,
     part: Part,

@@ -6,6 +6,7 @@ use crate::divides::Divides;
 use crate::packed::loan;
 use crate::refused_flags::Ruled;
 use crate::sides::{self, digits, fields_apart, names_apart, Numbers, Side};
+use crate::trap;
 
 /// As many differences are shown as a reader can use; all are counted.
 pub const MOST_SHOWN: usize = 20;
@@ -15,11 +16,14 @@ type Named = (&'static str, Numbers);
 
 #[derive(Clone, Debug)]
 pub struct Tally {
-    ours: Side,
+    /// In place of the port's answers to raw numbers.
+    pub ours: Side,
     /// In place of the port's functions on packed digits.
     pub packed: loan::Side,
     /// In place of the port's functions that read answer lines.
     pub answers: answers::loan::Side,
+    /// In place of the port's function that tells what would trap.
+    pub trap: trap::loan::Side,
     pub compared: u64,
     pub divides: Divides,
     /// How many answers differ. One is enough to fail.
@@ -33,6 +37,7 @@ impl Tally {
             ours,
             packed: loan::ours,
             answers: answers::loan::ours,
+            trap: trap::loan::ours,
             compared: 0,
             divides: Divides::default(),
             differing: 0,
@@ -50,11 +55,17 @@ impl Tally {
         Tally { answers, ..self }
     }
 
+    /// The same, with another side for what would trap than the port.
+    pub fn with_trap(self, trap: trap::loan::Side) -> Tally {
+        Tally { trap, ..self }
+    }
+
     /// One that has seen nothing, with the same sides in place of the port.
     pub fn fresh(&self) -> Tally {
         Tally::new(self.ours)
             .with_packed(self.packed)
             .with_answers(self.answers)
+            .with_trap(self.trap)
     }
 
     /// Asks both sides, and holds the port to MartyPC.

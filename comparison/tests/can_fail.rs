@@ -13,6 +13,7 @@ use comparison::plan;
 use comparison::refused_flags::{Divide, Ruled};
 use comparison::sides::{fields_apart, ours, theirs, Numbers, Side};
 use comparison::tally::{Tally, MOST_SHOWN};
+use comparison::trap;
 use hatchyarn::raw::{self, Ran};
 use oracle::edges;
 use oracle::request::Operation;
@@ -443,5 +444,91 @@ fn a_wrong_part_of_an_answer_read_back_is_found_and_named() {
         let mut tally = Tally::new(ours);
         answers::held::hold(&mut tally, call);
         assert_eq!((tally.compared, tally.differing), (1, 0));
+    }
+}
+
+fn with_trap(side: trap::loan::Side) -> Tally {
+    Tally::new(ours).with_trap(side)
+}
+
+#[test]
+fn wrong_tellings_of_what_would_trap_are_found() {
+    for (name, side, sections) in wrong::trap::RULES {
+        for section in sections {
+            let tally = run(section, with_trap(side));
+            assert!(tally.differing > 0, "{name}, {section}");
+        }
+    }
+    for section in wrong::trap::SECTIONS {
+        assert_eq!(run(section, Tally::new(ours)).differing, 0, "{section}");
+    }
+}
+
+/// An unsigned divide that is refused for its sign: the reference agrees with what is told, and the port does not
+/// agree with itself.
+#[test]
+fn a_full_divide_that_says_otherwise_is_found() {
+    let (name, side) = wrong::statuses::RULES[5];
+    assert_eq!(name, "sign range of unsigned");
+    for section in wrong::trap::ADMITTED {
+        let tally = run(section, Tally::new(side));
+        assert!(tally.differing > 0, "{section}");
+        let is_told = |shown: &String| shown.ends_with(": the full divide differ");
+        assert!(tally.shown.iter().all(is_told), "{:?}", tally.shown);
+    }
+}
+
+/// The port, but that one byte of the loan is flipped.
+fn flipped(call: trap::call::Call, loan: &mut trap::loan::Loan, place: usize) -> u8 {
+    let status = trap::loan::ours(call, loan);
+    loan.whole[place] ^= 1;
+    status
+}
+
+/// Each part of what comes of a call, and a port that has it wrong.
+const WRONG_PARTS_OF_TRAP: [(&str, trap::loan::Side); 4] = [
+    ("status, the full divide", |call, loan| {
+        trap::loan::ours(call, loan) ^ 1
+    }),
+    ("trap, the full divide", |call, loan| {
+        flipped(call, loan, trap::loan::Loan::PLACE)
+    }),
+    ("bytes beside trap", |call, loan| {
+        flipped(call, loan, trap::loan::Loan::PLACE - 1)
+    }),
+    ("bytes beside trap", |call, loan| {
+        flipped(call, loan, trap::loan::Loan::PLACE + 1)
+    }),
+];
+
+/// A call that tells of a trap, one that tells of none, and the two refusals; over 0, 1 and 255.
+#[test]
+fn a_wrong_part_of_what_would_trap_is_found_and_named() {
+    use trap::held::hold_over;
+    let calls = [
+        (0x02, 0xFF80, 1),
+        (0x02, 0xFF81, 1),
+        (0x08, 0, 1),
+        (0, 0, 0x100),
+    ];
+    for (mode, dividend, divisor) in calls {
+        let call = trap::call::Call {
+            mode,
+            dividend,
+            divisor,
+        };
+        for before in [0x00, 0x01, 0xFF] {
+            for (parts, side) in WRONG_PARTS_OF_TRAP {
+                let mut tally = with_trap(side);
+                hold_over(&mut tally, before, call, 0);
+                let [shown] = &tally.shown[..] else {
+                    panic!("{:?}", tally.shown)
+                };
+                assert!(shown.ends_with(&format!(": {parts} differ")), "{shown}");
+            }
+            let mut tally = Tally::new(ours);
+            hold_over(&mut tally, before, call, 0x08D5);
+            assert_eq!((tally.compared, tally.differing), (1, 0));
+        }
     }
 }

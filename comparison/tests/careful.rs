@@ -9,7 +9,7 @@ use comparison::packed::careful as packed;
 use comparison::packed::{loan, tabled};
 use comparison::sides::{ours, theirs};
 use comparison::tally::Tally;
-use comparison::{careful, filter, plan};
+use comparison::{careful, filter, plan, trap};
 use oracle::draw::Draw;
 use oracle::request::Operation;
 use oracle::{edges, malformed};
@@ -136,4 +136,19 @@ fn answer_lines_digit_by_digit_are_as_in_the_reference() {
 fn answer_lines_by_a_table_are_as_in_the_reference() {
     use answers::tabled::{next, read};
     hold_answers(|call, loan| loan.call(call, (read, next)));
+}
+
+/// Stands in place of the port in all sections of what would trap.
+#[test]
+fn what_would_trap_by_the_hosts_division_is_as_in_the_reference() {
+    let sections = plan::sections(QUICK).into_iter();
+    let tally = Tally::new(ours);
+    let tally = tally.with_trap(|call, loan| loan.call(call, trap::careful::would_trap));
+    let of_trap = sections.filter(|section| section.name.starts_with("trap, "));
+    let held: Vec<Tally> = of_trap.map(|section| section.run(1, &tally)).collect();
+    assert_eq!(held.len(), 6);
+    for held in held {
+        assert!(held.compared > 10_000);
+        assert_eq!(held.differing, 0, "{:?}", held.shown);
+    }
 }

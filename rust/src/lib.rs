@@ -31,8 +31,20 @@
 //! assert_eq!(refusal.to_string(), "the divide is refused: the quotient does not fit with its sign");
 //! ```
 //!
+//! A list page only has to know which of its keys are closed. [`Operation::would_trap`] tells it of one
+//! divide, and [`Operation::would_trap_each8`] and [`Operation::would_trap_each16`] of a slice of keys, with no
+//! quotient worked out:
+//!
+//! ```
+//! use hatchyarn::Operation;
+//!
+//! let keys = [0xFF81, 0xFF80, 0x0007];
+//! assert!(Operation::would_trap_each8(&keys, 0x01, true).eq([false, true, false]));
+//! ```
+//!
 //! Requests that come as text are answered line by line ([`answer_line`]) or as a whole
-//! ([`answer_all`]). Requests that come as numbers that nobody has checked go to [`raw::ask`].
+//! ([`answer_all`]). Requests that come as numbers that nobody has checked go to [`raw::ask`], or
+//! to [`raw::would_trap`] where nothing else has to be known of a divide.
 //!
 //! Numbers of packed decimal digits, as loan cards hold them, are added and subtracted by
 //! [`packed::add`] and [`packed::subtract`].
@@ -48,6 +60,7 @@ mod operation;
 pub mod packed;
 pub mod raw;
 pub mod record;
+mod trap;
 
 pub use answer::{Answer, DivideRefusal, Refusal};
 pub use flags::Flags;

@@ -1,4 +1,4 @@
-//! The seven functions as the static library has them.
+//! The eight functions as the static library has them.
 //!
 //! They are safe to call with anything: nothing is required of a caller, and every request gets an
 //! answer. Use them for requests that come from elsewhere as numbers or as text; a program that
@@ -18,6 +18,16 @@ pub struct Numbers {
     pub s: u16,
 }
 
+/// What [`would_trap`] answers. Whoever looks at `trap` alone takes a divide that cannot be asked for
+/// closed, and never for open.
+#[derive(Clone, Copy, Debug, PartialEq, Eq, Hash)]
+pub struct WouldTrap {
+    /// 0 where the divide can be asked; 4 where the mode is wrong, or else 5 where an operand is too large.
+    pub status: u8,
+    /// Whether the divide would trap; true after 4 and 5.
+    pub trap: bool,
+}
+
 /// What [`run`] did.
 #[derive(Clone, Copy, Debug, PartialEq, Eq, Hash)]
 pub struct Ran {
@@ -31,6 +41,7 @@ mod linked {
     // As in include/hatchyarn.h, and in crates/embed, where the contracts stand.
     extern "C" {
         pub fn hatchyarn_ask(op: u8, mode: u8, flags: u16, x: u32, y: u16, answer: *mut u16) -> u8;
+        pub fn hatchyarn_would_trap(mode: u8, dividend: u32, divisor: u16, trap: *mut u8) -> u8;
         pub fn hatchyarn_line(line: *const u8, length: usize, out: *mut u8, room: usize) -> u8;
         pub fn hatchyarn_run(
             text: *const u8,
@@ -84,6 +95,21 @@ pub fn ask(op: u8, mode: u8, flags: u16, x: u32, y: u16) -> Numbers {
         r,
         s,
     }
+}
+
+/// Whether a divide would trap: whether [`ask`], given op `0x11`, the same numbers and any
+/// [`Flags`](crate::Flags), has another status than 0. No quotient is worked out. REP, `0x04` of the mode,
+/// changes nothing.
+///
+/// The status is 4 where the mode has a bit above `0x04`; else 5 where at 8 bits the dividend is over `0xFFFF`
+/// or the divisor over `0xFF`; else 0. After 4 and 5 `trap` is true.
+pub fn would_trap(mode: u8, dividend: u32, divisor: u16) -> WouldTrap {
+    // Closed, until the function says otherwise.
+    let mut trap = 1;
+    // SAFETY: the function writes one byte, and there is room for one.
+    let status = unsafe { linked::hatchyarn_would_trap(mode, dividend, divisor, &mut trap) };
+    let trap = trap != 0;
+    WouldTrap { status, trap }
 }
 
 /// Answers one line, given without its line feed. The answer's 19 bytes go to the front of `out`.

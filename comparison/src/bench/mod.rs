@@ -8,9 +8,11 @@ mod drawn;
 mod files;
 #[cfg(feature = "functions")]
 pub mod functions;
+mod keys;
 mod memory;
 pub mod packed;
 pub mod programs;
 mod refused;
 mod rounds;
 mod table;
+pub mod trap;

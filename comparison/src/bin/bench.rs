@@ -6,6 +6,7 @@ use comparison::bench::calls;
 use comparison::bench::functions;
 use comparison::bench::packed;
 use comparison::bench::programs::Programs;
+use comparison::bench::trap;
 use std::process::ExitCode;
 
 const HELP: &str = "\
@@ -16,6 +17,7 @@ use:
   bench calls                                   one call at a time, by operation
   bench packed                                  packed digits, by operation and length
   bench answers                                 answer lines read back, good ones and malformed
+  bench trap                                    what would trap, by divide and keys
   bench programs HATCHYARN FILTER FOLDER        whole programs; files are made in FOLDER
 
 exit: 0 measured, 1 the two sides answer differently or a file failed, 2 not understood
@@ -30,6 +32,7 @@ fn main() -> ExitCode {
         ["calls"] => calls::print(),
         ["packed"] => packed::print(),
         ["answers"] => answers::print(),
+        ["trap"] => trap::print(),
         ["programs", ours, theirs, folder] => Programs {
             ours: ours.into(),
             theirs: theirs.into(),

@@ -41,7 +41,7 @@ refused-is : (why : Refusal) (n : ℕ) (s rep : Bool) (d b : ℕ) (f : Flags) �
     → ofDivided (divide n s rep d b f) ≡ record { status = refusalStatus why; flags = wordOf (refusedFlags n s d b f); steps = refusedSteps n s d b; r = 0; s = 0 }
 refused-is why n s rep d b f hn e = ap ofDivided (refused-whole n s d b hn f rep why e)
 
-some-width : (mode : ℕ) → 0 < widthBy mode
+pub some-width : (mode : ℕ) → 0 < widthBy mode
 some-width mode = by (isSet 0 mode)
   where
     by : (k : Bool) → 0 < cond k 16 8

@@ -5,3 +5,5 @@ pub mod Rows
 pub mod Agreement
 pub mod Table
 pub mod Demand1
+pub mod TrapRows
+pub mod TrapLaws

@@ -72,7 +72,7 @@ product-status Byte m = refl
 product-status Word m = refl
 
 -- the rows of a divide
-abbrev byReason : Bool → Bool → Bool → ℕ
+abbrev pub byReason : Bool → Bool → Bool → ℕ
 byReason zero wide range = cond zero 6 (cond wide 8 (cond range 9 0))
 
 divide-status : (n : ℕ) (s rep : Bool) (d b : ℕ) (f : Flags) → 0 < n

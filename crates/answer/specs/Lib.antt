@@ -1,4 +1,5 @@
 pub mod Charted
 pub mod Asked
+pub mod Trap
 pub mod Table
 pub mod Refused

@@ -2,3 +2,4 @@
 pub mod alu_answer;
 pub mod answer;
 pub mod ask;
+pub mod trap;

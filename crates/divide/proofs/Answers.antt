@@ -16,15 +16,19 @@ use Rattle.divide.specs.Cord.{Results}
 use Rattle.divide.specs.Manual.{Division, inRange, isRefused}
 use Rattle.divide.proofs.Manual.{quotient-determined, division-holds, range-signed, range-unsigned, manual-accepts}
 
--- a divide is refused exactly if the divisor is 0 or the quotient is out of the manual's range, signed or not; REP changes nothing of that
-pub manual-refuses : (n : ℕ) (s rep : Bool) (d b : ℕ) (f : Flags) → isRefused (divide n s rep d b f .outcome) ≡ eqb b 0 || not (inRange n s (quotientOf n s d b))
+-- a divide is refused exactly if it is not accepted, whatever the flags, REP or not
+pub not-accepted-refused : (n : ℕ) (s rep : Bool) (d b : ℕ) (f : Flags) → isRefused (divide n s rep d b f .outcome) ≡ not (accepts n s d b)
 unfolding divide
-manual-refuses n s rep d b f = by (accepts n s d b) refl ∙ ap not (manual-accepts n s d b) ∙ either (eqb b 0) (inRange n s (quotientOf n s d b))
+not-accepted-refused n s rep d b f = by (accepts n s d b) refl
   where
     by : (c : Bool) → accepts n s d b ≡ c → isRefused (divide n s rep d b f .outcome) ≡ not c
     by true e = rw e
     by false e = rw e
 
+-- a divide is refused exactly if the divisor is 0 or the quotient is out of the manual's range, signed or not; REP changes nothing of that
+pub manual-refuses : (n : ℕ) (s rep : Bool) (d b : ℕ) (f : Flags) → isRefused (divide n s rep d b f .outcome) ≡ eqb b 0 || not (inRange n s (quotientOf n s d b))
+manual-refuses n s rep d b f = not-accepted-refused n s rep d b f ∙ ap not (manual-accepts n s d b) ∙ either (eqb b 0) (inRange n s (quotientOf n s d b))
+  where
     either : (x y : Bool) → not (not x && y) ≡ x || not y
     either true y = refl
     either false y = refl

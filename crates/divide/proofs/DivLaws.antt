@@ -377,6 +377,10 @@ module _ (n d b : ℕ) (rep : Bool) (hn : 0 < n) (hd : d < 2 ^ (n + n)) (hb : b 
 
 -- ---- signed or not; REP changes nothing of an unsigned divide
 
+pub known : (n : ℕ) (s : Bool) (d b : ℕ) → 0 < n → d < 2 ^ (n + n) → b < 2 ^ n → ByMagnitudes n s d b
+known n true d b hn hd hb = signed-known n d b false hn hd hb
+known n false d b hn hd hb = unsigned-known n d b
+
 module _ (n d b : ℕ) (f : Flags) (rep : Bool) {s : Bool} {r : Divided} where
   pub when-signed : s ≡ true → r ≡ divide n true rep d b f → r ≡ divide n s rep d b f
   when-signed t e = rw t e

@@ -15,14 +15,13 @@ use Rattle.divide.specs.Manual.{Division, isRefused}
 use Rattle.divide.specs.declared.div.Refusal.{Refusal}
 use Rattle.divide.specs.declared.div.Refusal.the-variants.{ZeroDivisor, TooWide, SignRange}
 use Rattle.divide.proofs.Borders.{true-wide, wide-true, true-range, range-true, wide-or-range, wide-unfit}
-use Rattle.divide.proofs.DivLaws.{compared-first, refused-is, unsigned-known, signed-known}
+use Rattle.divide.proofs.DivLaws.{compared-first, refused-is, known}
 use Rattle.divide.proofs.Manual.{quotient-fits}
 use Rattle.divide.proofs.Answers.{not-by-zero, quotient-is}
 
 -- the first compare refuses for the first two reasons, and for no other
 pub first-two : (n : ℕ) (s : Bool) (d b : ℕ) → 0 < n → d < 2 ^ (n + n) → b < 2 ^ n → atFirst n s d b ≡ applies ZeroDivisor n s d b || applies TooWide n s d b
-first-two n true d b hn hd hb = compared-first n true d b (signed-known n d b false hn hd hb)
-first-two n false d b hn hd hb = compared-first n false d b (unsigned-known n d b)
+first-two n s d b hn hd hb = compared-first n s d b (known n s d b hn hd hb)
 
 not-zero : (b : ℕ) → eqb b 0 ≡ true → not (eqb b 0) ≡ true → ⊥
 not-zero b e f = true≢false (sym e ∙ not-true (eqb b 0) f)

@@ -3,3 +3,4 @@
 pub mod cord;
 pub mod div;
 pub mod idiv;
+pub mod trap;

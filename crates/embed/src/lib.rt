@@ -1,12 +1,13 @@
-// What a program in another language calls: a request given as numbers, one line, a run over many lines,
-// packed decimal strings added and subtracted, and answer lines read back. Nothing is required of a caller
-// but that each pointer leads to as many bytes as it says.
+// What a program in another language calls: a request given as numbers, whether a divide would trap, one line,
+// a run over many lines, packed decimal strings added and subtracted, and answer lines read back. Nothing is
+// required of a caller but that each pointer leads to as many bytes as it says.
 ghost use mathlib.Core.Path.{_≡_};
 ghost use Prim.Native.Nat.{_/_};
 ghost use lib.ListN.{length};
 ghost use Rattle.line.specs.One.{statusIn, answered};
 ghost use Rattle.line.specs.Run.{done, runOf};
 ghost use Rattle.answer.specs.Asked.{statusOf, partsOf};
+ghost use Rattle.answer.specs.Trap.{trapTold, wouldTrap};
 ghost use Rattle.packed.specs.Sum.{plus, minus};
 ghost use Rattle.packed.specs.Told.{told, toldBy};
 ghost use Rattle.record.specs.Judge.{readBack};
@@ -30,6 +31,15 @@ pub extern "C" fn hatchyarn_ask(
     ensures { λ r. ⌜ (r ≡ statusOf op mode flags x y) × (now (answer .exit) ≡ partsOf op mode flags x y) ⌝ }
 {
     ask::ask_into(op, mode, flags, x, y, answer)
+}
+
+// Whether the divide of mode, dividend and divisor would trap goes into `trap`, as 0 or 1; returns 0. What
+// cannot be asked returns 4 or 5, and `trap` becomes 1.
+#[no_mangle]
+pub extern "C" fn hatchyarn_would_trap(mode: u8, dividend: u32, divisor: u16, trap: &mut u8) -> u8
+    ensures { λ r. ⌜ trapTold r (now (trap .exit)) ≡ wouldTrap mode dividend divisor ⌝ }
+{
+    answer::trap::would_trap(mode, dividend, divisor, trap)
 }
 
 // One line without its line feed: the whole table.

@@ -30,6 +30,13 @@ set-of (suc (suc d)) p hp hd = absurd (omega arith)
 pub mask-bit : (k x : ℕ) → not (eqb (bitAnd x (2 ^ k)) 0) ≡ isSet k x
 mask-bit k x = ap (λ (y : ℕ). not (eqb y 0)) (and-bit k x) ∙ set-of (x / 2 ^ k % 2) (2 ^ k) (pow-pos k) (mod-lt (x / 2 ^ k) (lit< tt))
 
+-- the same where the code branches on the test
+pub set-masked : (k x : ℕ) → (bitAnd x (2 ^ k) ≡ 0 → ⊥) → isSet k x ≡ true
+set-masked k x h = sym (mask-bit k x) ∙ ap not (ne-eqb (bitAnd x (2 ^ k)) 0 h)
+
+pub set-unmasked : (k x : ℕ) → bitAnd x (2 ^ k) ≡ 0 → isSet k x ≡ false
+set-unmasked k x h = sym (mask-bit k x) ∙ ap not (eq-eqb (bitAnd x (2 ^ k)) 0 h)
+
 -- the top bit of a number of n bits, as a digit and tested by its mask
 pub digit-top : (n x : ℕ) → 0 < n → x < 2 ^ n → x / top n % 2 ≡ bit (topSet n x)
 digit-top n x hn hx = by-digit (x / top n) (x % top n) (mod-lt x (pow-pos (n - 1))) (div-add-mod' x (top n))

@@ -9,7 +9,7 @@ use lib.Dec.{leb, ltb}
 use borrow.Author.Tests.{ne-eqb, lt-ltb, le-ltb, leb-true}
 use Rattle.flags.specs.Word.{flagsOf, isFlags}
 use Rattle.flags.specs.declared.word.Flags.{Flags}
-use Rattle.flags.proofs.Masks.{mask-bit}
+use Rattle.flags.proofs.Masks.{set-masked, set-unmasked}
 use Rattle.request.specs.Operation.{lookup, listed, widthOf, checked, operationOf}
 use Rattle.request.specs.Limits.{xMost, yMost}
 use Rattle.request.specs.Judge.{Raw, inLimits, requestOf, judgedBy, judged}
@@ -45,10 +45,10 @@ missed N op (row ∷ rows) m = rw (ne-eqb op (row .0) (first op rows m .1)) (mis
 -- ---- the mode
 
 pub word-width : (mode : ℕ) → (bitAnd mode 0x01 ≡ 0 → ⊥) → Word ≡ widthOf mode
-word-width mode h = rw (← mask-bit 0 mode, ne-eqb (bitAnd mode 0x01) 0 h)
+word-width mode h = rw (set-masked 0 mode h)
 
 pub byte-width : (mode : ℕ) → bitAnd mode 0x01 ≡ 0 → Byte ≡ widthOf mode
-byte-width mode h = rw (← mask-bit 0 mode, h)
+byte-width mode h = rw (set-unmasked 0 mode h)
 
 -- what the match on the op told, and what the arm made of the mode
 pub named : (op mode : ℕ) {l k : Listed} → l ≡ listed op → l ≡ k → {r : Named} → r ≡ checked k mode → r ≡ operationOf op mode

@@ -8,6 +8,7 @@ mod pair;
 pub mod port;
 mod processor;
 mod told;
+mod trap;
 
 use super::drawn::Drawn;
 use super::table::{self, Row};
@@ -20,7 +21,9 @@ pub fn print() -> Result<(), String> {
     println!();
     by_count::print()?;
     println!();
-    table::print_refused(beside)
+    table::print_refused(beside)?;
+    println!();
+    trap::print()
 }
 
 fn beside(drawn: Drawn) -> Row {

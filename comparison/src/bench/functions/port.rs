@@ -64,3 +64,11 @@ opened! {
     daa(ax: u16, flags: &Flags, table: &Table) -> Adjusted;
     das(ax: u16, flags: &Flags, table: &Table) -> Adjusted;
 }
+
+// A bool that is all of a result is returned.
+extern "C" {
+    #[link_name = "port_would_trap8"]
+    pub fn would_trap8(dividend: u16, divisor: u8, signed: bool) -> bool;
+    #[link_name = "port_would_trap16"]
+    pub fn would_trap16(dividend: u32, divisor: u16, signed: bool) -> bool;
+}

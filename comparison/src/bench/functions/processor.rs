@@ -7,7 +7,7 @@ use oracle::cpu_808x::PARITY_TABLE;
 use oracle::request::{Decimal, Mode, Width};
 
 /// The table that MartyPC's functions read, with a number for each bool.
-static TABLE: port::Table = table();
+pub static TABLE: port::Table = table();
 
 const fn table() -> port::Table {
     let mut table = [0; 256];

@@ -1,0 +1,106 @@
+-- The table's rows of a divide, and what they make of whether it would trap. Assumes nothing.
+use mathlib.Core.Path.{_≡_, refl, sym, ap, _∙_}
+use mathlib.Core.Bool.{Bool, true, false, not, cond, _||_, true≢false}
+use Prim.Native.Nat.{ℕ, _+_, _%_, _^_, _≤_, _<_}
+use native.Mathlib.Nat.{mod-eq-of-lt}
+use native.Mathlib.Omega.{arith}
+use mir.Val.{boolByte}
+use lib.Bits.{bitAnd}
+use lib.Dec.{leb, ltb, eqb}
+use borrow.Author.Tests.{lt-ltb, le-ltb, lt-leb, ltb-false, eq-eqb}
+use Rattle.flags.specs.Numbers.{bit, isSet}
+use Rattle.flags.proofs.Masks.{mask-bit, set-masked, set-unmasked}
+use Rattle.divide.specs.Divide.{accepts, applies}
+use Rattle.divide.specs.declared.div.Refusal.{Refusal}
+use Rattle.divide.specs.declared.div.Refusal.the-variants.{ZeroDivisor, TooWide, SignRange}
+use Rattle.divide.proofs.Refusals.{three-cover}
+use Rattle.answer.specs.Asked.{raw, statusOf}
+use Rattle.answer.specs.Table.{widthBy}
+use Rattle.answer.specs.Trap.{trapTold, trapBy, wouldTrap}
+use Rattle.answer.proofs.Table.{byReason, by-table}
+use Rattle.answer.proofs.Demand1.{some-width}
+
+-- an operand that has too many bits for the mode's width
+abbrev pub large : ℕ → ℕ → ℕ → Bool
+large mode x y = leb (2 ^ (widthBy mode + widthBy mode)) x || leb (2 ^ widthBy mode) y
+
+-- a reason to refuse the divide of that width and sign rule
+abbrev pub refusedBy : Refusal → ℕ → ℕ → ℕ → Bool
+refusedBy why mode x y = applies why (widthBy mode) (isSet 1 mode) x y
+
+-- the rows of a divide: its mode, its operands, then the three reasons
+abbrev pub rowsOf : ℕ → ℕ → ℕ → ℕ
+rowsOf mode x y =
+    cond (ltb 0x07 mode) 4 (cond (large mode x y) 5 (byReason (refusedBy ZeroDivisor mode x y) (refusedBy TooWide mode x y) (refusedBy SignRange mode x y)))
+
+module _ (mode x y : ℕ) where
+  -- they are its status, with any flags inside 08D5
+  pub divide-by-rows : (f : ℕ) → bitAnd f 0x08D5 ≡ f → statusOf 0x11 mode f x y ≡ rowsOf mode x y
+  divide-by-rows f hf = by-table (raw 0x11 mode f x y) ∙ rw (eq-eqb (bitAnd f 0x08D5) f hf) (by (ltb 0x07 mode) (large mode x y) _)
+    where
+      by : (m l : Bool) (k : ℕ) → cond (m || false || false) 4 (cond (l || false) 5 k) ≡ cond m 4 (cond l 5 k)
+      by true l k = refl
+      by false true k = refl
+      by false false k = refl
+
+  pub told-by-rows : wouldTrap mode x y ≡ trapBy (rowsOf mode x y)
+  unfolding wouldTrap
+  told-by-rows = ap trapBy (divide-by-rows 0 refl)
+
+  -- a mode that no divide has, whatever the operands
+  pub told-mode : 0x07 < mode → wouldTrap mode x y ≡ trapTold 4 1
+  told-mode h = told-by-rows ∙ rw (lt-ltb 0x07 mode h)
+
+  module _ (hm : mode ≤ 0x07) where
+    -- an operand is too large
+    pub told-large : large mode x y ≡ true → wouldTrap mode x y ≡ trapTold 5 1
+    told-large h = told-by-rows ∙ rw (le-ltb 0x07 mode hm, h)
+
+    -- admitted, it would trap exactly if the divide is not accepted
+    pub told-admitted : x < 2 ^ (widthBy mode + widthBy mode) → y < 2 ^ widthBy mode → wouldTrap mode x y ≡ trapTold 0 (bit (not (accepts (widthBy mode) (isSet 1 mode) x y)))
+    told-admitted hx hy =
+        told-by-rows ∙ rw (le-ltb 0x07 mode hm, lt-leb (2 ^ (widthBy mode + widthBy mode)) x hx, lt-leb (2 ^ widthBy mode) y hy)
+        (by (refusedBy ZeroDivisor mode x y) (refusedBy TooWide mode x y) (refusedBy SignRange mode x y)
+        ∙ ap (λ (t : Bool). trapTold 0 (bit t)) (sym (three-cover (widthBy mode) (isSet 1 mode) x y (some-width mode))))
+      where
+        by : (z w r : Bool) → trapBy (byReason z w r) ≡ trapTold 0 (bit (z || w || r))
+        by true w r = refl
+        by false true r = refl
+        by false false true = refl
+        by false false false = refl
+
+-- ---- how the code tells it, by the width that the mode names
+
+-- an answer as a byte
+byte-bit : {t u : Bool} → t ≡ u → boolByte t ≡ bit u
+byte-bit {t} e = by t ∙ ap bit e
+  where
+    by : (t : Bool) → boolByte t ≡ bit t
+    by true = refl
+    by false = refl
+
+neither : (a b : Bool) → a || b ≡ false → (a ≡ false) × (b ≡ false)
+neither true b e = absurd (true≢false e)
+neither false b e = (refl, e)
+
+module _ (mode x y : ℕ) (hm : mode ≤ 0x07) where
+  -- sixteen bits have room for every operand
+  pub told-word : (bitAnd mode 0x01 ≡ 0 → ⊥) → x < 2 ^ 32 → y < 2 ^ 16 → {t : Bool} → t ≡ not (accepts 16 (not (eqb (bitAnd mode 0x02) 0)) x y)
+      → trapTold 0 (boolByte t) ≡ wouldTrap mode x y
+  told-word h hx hy e =
+      let wide = set-masked 0 mode h in
+      ap (trapTold 0) (byte-bit e ∙ λ i. bit (not (accepts 16 (mask-bit 1 mode i) x y))) ∙ sym (told-admitted mode x y hm (rw wide hx) (rw wide hy) ∙ rw wide)
+
+  module _ (h : bitAnd mode 0x01 ≡ 0) where
+    pub told-byte-large : ltb 0xFFFF x || ltb 0xFF y ≡ true → trapTold 5 1 ≡ wouldTrap mode x y
+    told-byte-large e = sym (told-large mode x y hm (rw (set-unmasked 0 mode h) e))
+
+    pub told-byte : ltb 0xFFFF x || ltb 0xFF y ≡ false → {t : Bool} → t ≡ not (accepts 8 (not (eqb (bitAnd mode 0x02) 0)) (x % 0x1_0000) (y % 0x100))
+        → trapTold 0 (boolByte t) ≡ wouldTrap mode x y
+    told-byte f e =
+        let fit = neither (ltb 0xFFFF x) (ltb 0xFF y) f in
+        let hx : x < 0x1_0000 = omega (arith, ltb-false 0xFFFF x (fit .0)) in
+        let hy : y < 0x100 = omega (arith, ltb-false 0xFF y (fit .1)) in
+        let narrow = set-unmasked 0 mode h in
+        ap (trapTold 0) (byte-bit e ∙ λ i. bit (not (accepts 8 (mask-bit 1 mode i) (mod-eq-of-lt hx i) (mod-eq-of-lt hy i))))
+        ∙ sym (told-admitted mode x y hm (rw narrow hx) (rw narrow hy) ∙ rw narrow)

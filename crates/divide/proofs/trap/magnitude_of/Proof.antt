@@ -1,0 +1,19 @@
+-- `divide::trap::magnitude_of` meets its contract, by the sign bit. Assumes nothing.
+use native.Mathlib.Omega.{arith}
+use borrow.Author.Needs.{needs}
+use Rattle.divide.proofs.TrapLaws.{left-over, as-it-is}
+use Rattle.divide.proofs.trap.magnitude_of.Statement.{statement}
+use Rattle.divide.proofs.trap.magnitude_of.Tie as tie
+
+returns : tie.Need-returns
+returns c =
+    let a = c .before .before .args in
+    left-over (a .bits) (a .number) (omega arith) (omega arith) (c .before .if1 .taken) (omega (arith, c .power .ensures))
+
+returns-2 : tie.Need-returns-2
+returns-2 c =
+    let a = c .before .args in
+    as-it-is (a .bits) (a .number) (omega arith) (omega arith) (c .if1 .left)
+
+pub magnitude-of-spec : {M : Type 1} → statement M
+magnitude-of-spec = tie.close (tie.spec (λ c. search needs) (λ c. search needs) (λ c. search needs) (λ c κs. search needs) (λ c. search needs) returns returns-2)
