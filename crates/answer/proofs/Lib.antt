@@ -5,5 +5,3 @@ pub mod Rows
 pub mod Agreement
 pub mod Table
 pub mod Demand1
-pub mod TrapRows
-pub mod TrapLaws

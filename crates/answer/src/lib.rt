@@ -2,4 +2,3 @@
 pub mod alu_answer;
 pub mod answer;
 pub mod ask;
-pub mod trap;

@@ -7,7 +7,7 @@ ghost use lib.ListN.{length};
 ghost use Rattle.line.specs.One.{statusIn, answered};
 ghost use Rattle.line.specs.Run.{done, runOf};
 ghost use Rattle.answer.specs.Asked.{statusOf, partsOf};
-ghost use Rattle.answer.specs.Trap.{trapTold, wouldTrap};
+ghost use Rattle.trap.specs.Told.{trapTold, wouldTrap};
 ghost use Rattle.packed.specs.Sum.{plus, minus};
 ghost use Rattle.packed.specs.Told.{told, toldBy};
 ghost use Rattle.record.specs.Judge.{readBack};
@@ -39,7 +39,7 @@ pub extern "C" fn hatchyarn_ask(
 pub extern "C" fn hatchyarn_would_trap(mode: u8, dividend: u32, divisor: u16, trap: &mut u8) -> u8
     ensures { λ r. ⌜ trapTold r (now (trap .exit)) ≡ wouldTrap mode dividend divisor ⌝ }
 {
-    answer::trap::would_trap(mode, dividend, divisor, trap)
+    trap::would_trap(mode, dividend, divisor, trap)
 }
 
 // One line without its line feed: the whole table.

@@ -10,6 +10,7 @@ pub mod OfPacked
 pub mod OfRegisters
 pub mod OfRequest
 pub mod OfAnswer
+pub mod OfTrap
 pub mod OfText
 pub mod OfLine
 pub mod OfRecord

@@ -3,7 +3,6 @@ use mathlib.Core.Path.{refl}
 use Rattle.answer.proofs.alu_answer
 use Rattle.answer.proofs.answer
 use Rattle.answer.proofs.ask
-use Rattle.answer.proofs.trap
 use Rattle.tight.specs.Tight.{Tight}
 use Rattle.tight.proofs.Law.{plainly, same}
 
@@ -40,6 +39,3 @@ module _ {M : Type 1} where
 
   pub ask-ask-into : Tight M ask.ask_into.signature ask.ask_into.clauses
   ask-ask-into c g r s = plainly (c .𝓤) (λ e d. (same (e .0) (d .0), λ i. (tt, (tt, (tt, (tt, (tt, (same (e .1) (d .1) i, tt))))))))
-
-  pub trap-would-trap : Tight M trap.would_trap.signature trap.would_trap.clauses
-  trap-would-trap c g r s = plainly (c .𝓤) (λ e d. let t = same e d in (λ i. t i .status, λ i. (tt, (tt, (tt, (t i .trap, tt))))))

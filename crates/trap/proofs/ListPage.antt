@@ -11,11 +11,11 @@ use lib.Dec.{ltb, eqb}
 use borrow.Author.Tests.{eqb-true, le-ltb, le-leb}
 use Rattle.flags.specs.Numbers.{bit, between, isSet}
 use Rattle.divide.specs.declared.div.Refusal.the-variants.{ZeroDivisor, TooWide, SignRange}
 use Rattle.answer.specs.Asked.{statusOf}
 use Rattle.answer.specs.Table.{OneOf}
-use Rattle.answer.specs.Trap.{WouldTrap, trapBy, wouldTrap}
+use Rattle.trap.specs.Told.{WouldTrap, trapBy, wouldTrap}
 use Rattle.answer.proofs.Table.{byReason}
-use Rattle.answer.proofs.TrapRows.{large, refusedBy, rowsOf, divide-by-rows, told-by-rows}
+use Rattle.trap.proofs.Rows.{large, refusedBy, rowsOf, divide-by-rows, told-by-rows}
 
 -- the statuses of a divide
 abbrev SixStatuses : ℕ → Type 0

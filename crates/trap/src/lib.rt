@@ -1,7 +1,7 @@
 // Whether a divide given as numbers, which no caller has checked, would trap. A mode or an operand that a
 // divide does not have is told by its status.
 ghost use mathlib.Core.Path.{_≡_};
-ghost use Rattle.answer.specs.Trap.{trapTold, wouldTrap};
+ghost use Rattle.trap.specs.Told.{trapTold, wouldTrap};
 use divide::trap;
 use flags::width::Width8;
 use flags::width::Width16;

@@ -14,11 +14,11 @@ use Rattle.divide.specs.Divide.{accepts, applies}
 use Rattle.divide.specs.declared.div.Refusal.{Refusal}
 use Rattle.divide.specs.declared.div.Refusal.the-variants.{ZeroDivisor, TooWide, SignRange}
 use Rattle.divide.proofs.Refusals.{three-cover}
 use Rattle.answer.specs.Asked.{raw, statusOf}
 use Rattle.answer.specs.Table.{widthBy}
-use Rattle.answer.specs.Trap.{trapTold, trapBy, wouldTrap}
+use Rattle.trap.specs.Told.{trapTold, trapBy, wouldTrap}
 use Rattle.answer.proofs.Table.{byReason, by-table}
 use Rattle.answer.proofs.Demand1.{some-width}
 
 -- an operand that has too many bits for the mode's width
 abbrev pub large : ℕ → ℕ → ℕ → Bool

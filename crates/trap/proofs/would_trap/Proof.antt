@@ -1,10 +1,10 @@
--- `answer::trap::would_trap` meets its contract: the rows of the table for a divide, by the width that its mode names. Assumes nothing.
+-- `trap::would_trap` meets its contract: the rows of the table for a divide, by the width that its mode names. Assumes nothing.
 use mathlib.Core.Path.{sym, _∙_}
 use native.Mathlib.Omega.{arith}
 use borrow.Author.Needs.{needs}
-use Rattle.answer.proofs.TrapRows.{told-mode, told-word, told-byte-large, told-byte}
-use Rattle.answer.proofs.trap.would_trap.Statement.{statement}
-use Rattle.answer.proofs.trap.would_trap.Tie as tie
+use Rattle.trap.proofs.Rows.{told-mode, told-word, told-byte-large, told-byte}
+use Rattle.trap.proofs.would_trap.Statement.{statement}
+use Rattle.trap.proofs.would_trap.Tie as tie
 
 mode : tie.Need-returns
 mode c =

@@ -1,0 +1,8 @@
+-- Each public function of `trap` has a tight contract. Assumes nothing.
+use Rattle.trap.proofs as lib
+use Rattle.tight.specs.Tight.{Tight}
+use Rattle.tight.proofs.Law.{plainly, same}
+
+module _ {M : Type 1} where
+  pub lib-would-trap : Tight M lib.would_trap.signature lib.would_trap.clauses
+  lib-would-trap c g r s = plainly (c .𝓤) (λ e d. let t = same e d in (λ i. t i .status, λ i. (tt, (tt, (tt, (t i .trap, tt))))))
