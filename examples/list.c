@@ -20,7 +20,7 @@ enum { KEY_DIGITS = 4, NUMBER_DIGITS = 2 };
 
 static const char hexadecimal[] = "0123456789ABCDEFabcdef";
 
-/* Whether text is 1 or 2 hexadecimal digits and nothing else. */
+/* Whether text is 1 or 2 hexadecimal digits and nothing else; *value is then their number. */
 static bool number(const char *text, uint16_t *value)
 {
     size_t digits = strspn(text, hexadecimal);

@@ -1,4 +1,4 @@
-//! Keys that are divided by a closed number, and what tells of each whether that would trap.
+//! Keys that are divided by a number, and what tells of each whether that would trap.
 
 use super::counts::USUAL;
 use super::drawn::{Drawn, INPUTS};
@@ -11,8 +11,8 @@ use oracle::draw::Draw;
 use oracle::request::{Mode, Operation};
 use std::hint::black_box;
 
-/// The closed number of a page; at 8 bits its lower half. A fourth to two fifths of all keys do not trap by it.
-const CLOSED: u16 = 0x6B3D;
+/// The divisor of a page; at 8 bits its lower half. A fourth to two fifths of all keys do not trap by it.
+const DIVISOR: u16 = 0x6B3D;
 
 /// What tells of a key, as the library's function does. It is no pointer: a call by one would be timed with it.
 pub trait Tells: Fn(Call, &mut u8) -> u8 {}
@@ -26,8 +26,8 @@ pub struct Keys {
 }
 
 impl Keys {
-    /// Of each divide without REP, which changes nothing: keys with closed numbers as divides are drawn, a page of
-    /// keys by one closed number of which half would trap, and one of which all would.
+    /// Of each divide without REP, which changes nothing: keys with divisors as divides are drawn, a page of
+    /// keys by one divisor of which half would trap, and one of which all would.
     pub fn all() -> impl Iterator<Item = Keys> {
         let mode = |operation| match operation {
             Operation::Divide(mode) if !mode.rep => Some(mode),
@@ -55,7 +55,7 @@ impl Keys {
             let call = Call {
                 mode: code,
                 dividend: draw.bits() as u32 & divide.x_limit(),
-                divisor: CLOSED & divide.y_limit(),
+                divisor: DIVISOR & divide.y_limit(),
             };
             if traps(call) == should {
                 return call;

@@ -9,11 +9,11 @@ use crate::trap::{careful, linked};
 
 /// Prints the two tables. An error says where two sides differ.
 pub fn print() -> Result<(), String> {
-    let inputs = "a page has one closed number; asked for is a ratio of at most 0.20";
+    let inputs = "a page has one divisor; the aim is a ratio of at most 0.20";
     let rows = Keys::all().map(|keys| keys.row(ours, by_full_divide));
     table::print_sides(inputs, ["bits", "its full divide"], rows)?;
     println!();
-    let inputs = "a page has one closed number";
+    let inputs = "a page has one divisor";
     let rows = Keys::all().map(|keys| keys.row(ours, by_checked_division));
     table::print_sides(inputs, ["bits", "plain Rust, checked division"], rows)
 }

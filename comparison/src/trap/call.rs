@@ -11,7 +11,7 @@ pub const WORD: u8 = 0x01;
 pub const SIGNED: u8 = 0x02;
 pub const REP: u8 = 0x04;
 
-/// Whether it is admitted or not.
+/// The mode and the operands, admitted or not.
 #[derive(Clone, Copy, Debug, PartialEq, Eq)]
 pub struct Call {
     pub mode: u8,

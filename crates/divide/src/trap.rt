@@ -1,5 +1,5 @@
 // Whether a divide is refused, with no quotient worked out: one comparison of the dividend's magnitude
-// with the divisor's. Both are taken in 64 bits, since a dividend of 32 is taken from 2 ^ 32.
+// with the divisor's. Both are held in 64 bits, since a negative dividend of 32 bits is taken from 2 ^ 32.
 ghost use mathlib.Core.Bool.{true, not};
 ghost use mathlib.Core.Path.{_≡_};
 ghost use Prim.Native.Nat.{_+_, _^_, _≤_, _<_};
@@ -27,7 +27,8 @@ fn magnitude_of(bits: u32, number: u64) -> u64
     }
 }
 
-// Signed, half as many times are too many: the quotient needs a bit for its sign.
+// Whether the dividend is at least 2 ^ bits times the divisor. Signed, half as many times are too many: the
+// quotient needs a bit for its sign.
 fn would_trap(bits: u32, dividend: u64, divisor: u64, signed: bool) -> bool
     requires { ⌜ (dividend < 2 ^ (bits + bits)) × (divisor < 2 ^ bits) × (8 ≤ bits) × (bits ≤ 16) ⌝ }
     ensures { λ r. ⌜ r ≡ not (accepts bits signed dividend divisor) ⌝ }

@@ -1,5 +1,5 @@
--- For a list page: where it is told that a divide would not trap, the divide of the same request is done, and where it would, that divide is
--- refused; and nothing else is told as one that would not. Assumes nothing.
+-- For a list page: where it is told that a divide would not trap, the divide of the same request is done; where it would and can be asked, that
+-- divide is refused; and what cannot be asked is never told as one that would not. Assumes nothing.
 use mathlib.Core.Path.{_≡_, refl, sym, ap, subst, _∙_}
 use mathlib.Core.Bool.{Bool, true, false, not, cond}
 use mathlib.Core.List.{[], _∷_}

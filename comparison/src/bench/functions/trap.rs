@@ -10,7 +10,7 @@ use std::mem::MaybeUninit;
 
 /// Prints the table. An error says where the two differ.
 pub fn print() -> Result<(), String> {
-    let inputs = "a page has one closed number";
+    let inputs = "a page has one divisor";
     let rows = Keys::all().map(|keys| row(&keys));
     table::print_sides(inputs, ["bits", "its own divide"], rows)
 }
