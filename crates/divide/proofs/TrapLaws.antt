@@ -79,6 +79,13 @@ module _ (n x : ℕ) (hn : 0 < n) (hx : x < 2 ^ n) where
   pub left-over : (x / top n ≡ 0 → ⊥) → {r : ℕ} → r ≡ 2 ^ n - x → r ≡ magnitude true n x
   left-over h e = e ∙ sym (magnitude-plain n x hx ∙ rw (← negative-bit n x hn hx, ne-eqb (x / top n) 0 h))
 
+  -- that is at most half of all, so that a remainder by more would change nothing
+  pub at-most-half : n ≤ 32 → (x / top n ≡ 0 → ⊥) → 2 ^ n ≤ x + 2 ^ 31
+  at-most-half most h =
+      let high : top n ≤ x = leb-true (top n) x (sym (negative-bit n x hn hx) ∙ ap not (ne-eqb (x / top n) 0 h)) in
+      let half : top n ≤ 2 ^ 31 = pow-le-pow-right (lit< tt) {i = n - 1} {j = 31} (omega arith) in
+      omega (arith, top-twice n hn)
+
   pub as-it-is : x / top n ≡ 0 → x ≡ magnitude true n x
   as-it-is h = sym (magnitude-plain n x hx ∙ rw (← negative-bit n x hn hx, h))
 

@@ -1,14 +1,15 @@
 -- `divide::trap::magnitude_of` meets its contract, by the sign bit. Assumes nothing.
 use native.Mathlib.Omega.{arith}
 use borrow.Author.Needs.{needs}
-use Rattle.divide.proofs.TrapLaws.{left-over, as-it-is}
+use Rattle.divide.proofs.TrapLaws.{left-over, at-most-half, as-it-is}
 use Rattle.divide.proofs.trap.magnitude_of.Statement.{statement}
 use Rattle.divide.proofs.trap.magnitude_of.Tie as tie
 
 returns : tie.Need-returns
 returns c =
     let a = c .before .before .args in
-    left-over (a .bits) (a .number) (omega arith) (omega arith) (c .before .if1 .taken) (omega (arith, c .power .ensures))
+    let half = at-most-half (a .bits) (a .number) (omega arith) (omega arith) (omega arith) (c .before .if1 .taken) in
+    left-over (a .bits) (a .number) (omega arith) (omega arith) (c .before .if1 .taken) (omega (arith, half, c .power .ensures))
 
 returns-2 : tie.Need-returns-2
 returns-2 c =
