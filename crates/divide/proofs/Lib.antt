@@ -8,7 +8,6 @@ pub mod DivLaws
 pub mod AfterPre
 pub mod Logged
 pub mod Manual
-pub mod TrapLaws
 pub mod Answers
 pub mod Refusals
 pub mod RefusedFlags

@@ -3,7 +3,6 @@ pub mod Cord
 pub mod Idiv
 pub mod Flags
 pub mod Divide
-pub mod Trap
 pub mod Finish
 pub mod Manual
 pub mod StepLog

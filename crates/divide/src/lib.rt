@@ -3,4 +3,3 @@
 pub mod cord;
 pub mod div;
 pub mod idiv;
-pub mod trap;

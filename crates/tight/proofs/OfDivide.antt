@@ -3,9 +3,8 @@ use mathlib.Core.Path.{refl}
 use Rattle.divide.proofs.cord
 use Rattle.divide.proofs.div
 use Rattle.divide.proofs.idiv
-use Rattle.divide.proofs.trap
 use Rattle.tight.specs.Tight.{Tight}
-use Rattle.tight.proofs.Law.{plainly, same, through}
+use Rattle.tight.proofs.Law.{plainly, through}
 use Rattle.tight.proofs.Views.{cordAnswer8-faithful, cordAnswer16-faithful, divided8-faithful, divided16-faithful, negate8-faithful, negate16-faithful, post8Answer-faithful, post16Answer-faithful}
 
 module _ {M : Type 1} where
@@ -32,9 +31,3 @@ module _ {M : Type 1} where
 
   pub idiv-post-idiv16 : Tight M idiv.post_idiv16.signature idiv.post_idiv16.clauses
   idiv-post-idiv16 c g r s = plainly (c .𝓤) (λ e d. (through post16Answer-faithful e d, refl))
-
-  pub trap-would-trap8 : Tight M trap.would_trap8.signature trap.would_trap8.clauses
-  trap-would-trap8 c g r s = plainly (c .𝓤) (λ e d. (same e d, refl))
-
-  pub trap-would-trap16 : Tight M trap.would_trap16.signature trap.would_trap16.clauses
-  trap-would-trap16 c g r s = plainly (c .𝓤) (λ e d. (same e d, refl))

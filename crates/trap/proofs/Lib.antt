@@ -1,2 +1,3 @@
+pub mod CompareLaws
 pub mod Rows
 pub mod ListPage

@@ -1,8 +1,9 @@
 // Whether a divide given as numbers, which no caller has checked, would trap. A mode or an operand that a
 // divide does not have is told by its status.
+pub mod compare;
+
 ghost use mathlib.Core.Path.{_≡_};
 ghost use Rattle.trap.specs.Told.{trapTold, wouldTrap};
-use divide::trap;
 use flags::width::Width8;
 use flags::width::Width16;
 
@@ -24,13 +25,13 @@ pub fn would_trap(mode: u8, dividend: u32, divisor: u16, trap: &mut u8) -> u8
     }
     let signed = mode & 0x02 != 0;
     if mode & 0x01 != 0 {
-        *trap = trap::would_trap16(dividend, divisor, signed) as u8;
+        *trap = compare::would_trap16(dividend, divisor, signed) as u8;
         return 0;
     }
     if (dividend > Width16::MAX as u32) | (divisor > Width8::MAX as u16) {
         return closed(5, trap);
     }
     let key = (dividend % 0x1_0000) as u16;
-    *trap = trap::would_trap8(key, (divisor % 0x100) as u8, signed) as u8;
+    *trap = compare::would_trap8(key, (divisor % 0x100) as u8, signed) as u8;
     0
 }

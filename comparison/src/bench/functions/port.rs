@@ -1,6 +1,6 @@
 //! The port's own functions, which `./bench` opens under names that begin with `port_`.
 //!
-//! They are those of crates/alu, multiply, divide and bcd. The library writes a record to where its
+//! They are those of crates/alu, multiply, divide, bcd and trap. The library writes a record to where its
 //! first argument points, takes numbers and bools by value, and reads flags and the parity table
 //! where a pointer leads.
 

@@ -1,11 +1,11 @@
--- `divide::trap::power` meets its contract: a one, shifted. Assumes nothing.
+-- `trap::compare::power` meets its contract: a one, shifted. Assumes nothing.
 use mathlib.Core.Path.{_∙_}
 use native.Mathlib.Omega.{arith}
 use borrow.Author.Needs.{needs}
 use lib.Dec.{lit<}
 use lib.Pow.{shl-exact}
-use Rattle.divide.proofs.trap.power.Statement.{statement}
-use Rattle.divide.proofs.trap.power.Tie as tie
+use Rattle.trap.proofs.compare.power.Statement.{statement}
+use Rattle.trap.proofs.compare.power.Tie as tie
 
 returns : tie.Need-returns
 returns c = shl-exact 1 (c .args .bits) 64 (lit< tt) (omega arith) ∙ omega arith

@@ -1,9 +1,9 @@
--- `divide::trap::magnitude_of` meets its contract, by the sign bit. Assumes nothing.
+-- `trap::compare::magnitude_of` meets its contract, by the sign bit. Assumes nothing.
 use native.Mathlib.Omega.{arith}
 use borrow.Author.Needs.{needs}
-use Rattle.divide.proofs.TrapLaws.{left-over, at-most-half, as-it-is}
-use Rattle.divide.proofs.trap.magnitude_of.Statement.{statement}
-use Rattle.divide.proofs.trap.magnitude_of.Tie as tie
+use Rattle.trap.proofs.CompareLaws.{left-over, at-most-half, as-it-is}
+use Rattle.trap.proofs.compare.magnitude_of.Statement.{statement}
+use Rattle.trap.proofs.compare.magnitude_of.Tie as tie
 
 returns : tie.Need-returns
 returns c =

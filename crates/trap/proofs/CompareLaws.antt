@@ -17,10 +17,10 @@ use Rattle.flags.specs.Numbers.{bit, top, topSet, magnitude}
 use Rattle.flags.proofs.Powers.{top-twice, top-double}
 use Rattle.flags.proofs.SignLaws.{plain-lt, magnitude-plain}
 use Rattle.alu.proofs.StepLaws.{top-digit}
 use Rattle.divide.specs.Divide.{accepts, quotientOf, dividendOf, divisorOf}
-use Rattle.divide.specs.Trap.{timesOf, reaches}
+use Rattle.trap.specs.Compare.{timesOf, reaches}
 use Rattle.divide.proofs.DivLaws.{ByMagnitudes, known}
 use Rattle.divide.proofs.Manual.{quotient-fits}
 
 -- accepted: the divisor is not 0, and the quotient's magnitude is below so many times
 accepted-below : (n : ℕ) (s : Bool) (d b : ℕ) → accepts n s d b ≡ not (eqb b 0) && ltb (natAbs (quotientOf n s d b)) (timesOf n s)

@@ -1,12 +1,12 @@
--- `divide::trap::would_trap` meets its contract: the comparison of either sign rule says that the divide is not accepted. Assumes nothing.
+-- `trap::compare::would_trap` meets its contract: the comparison of either sign rule says that the divide is not accepted. Assumes nothing.
 use mathlib.Core.Path.{refl}
 use mathlib.Core.Bool.{true, false}
 use native.Mathlib.Omega.{arith}
 use borrow.Author.Needs.{needs}
 use Rattle.flags.proofs.Powers.{top-twice}
-use Rattle.divide.proofs.TrapLaws.{no-wider, product-fits, compares}
-use Rattle.divide.proofs.trap.would_trap.Statement.{statement}
-use Rattle.divide.proofs.trap.would_trap.Tie as tie
+use Rattle.trap.proofs.CompareLaws.{no-wider, product-fits, compares}
+use Rattle.trap.proofs.compare.would_trap.Statement.{statement}
+use Rattle.trap.proofs.compare.would_trap.Tie as tie
 
 mul-result : tie.Need-mul-result
 mul-result c =
