@@ -99,7 +99,7 @@ pub fn of_divided16(made: Divided16) -> Answer
     }
 }
 
-fn of_adjusted(made: Adjusted) -> Answer
+pub fn of_adjusted(made: Adjusted) -> Answer
     ensures { λ a. ⌜ a ≡ ofAdjusted made ⌝ }
 {
     whole(0, made.flags, made.steps, made.ax, 0)

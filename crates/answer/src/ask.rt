@@ -132,3 +132,18 @@ pub fn ask_into(op: u8, mode: u8, flags: u16, x: u32, y: u16, parts: &mut [u16; 
     *parts = [a.flags, a.steps, a.r, a.s];
     a.status
 }
+
+// An answer put together from its parts, for whoever goes on with it. `ask` itself has one caller.
+pub fn by_parts(op: u8, mode: u8, flags: u16, x: u32, y: u16) -> Answer
+    ensures { λ a. ⌜ a ≡ asked (raw op mode flags x y) ⌝ }
+{
+    let mut parts = [0u16; 4];
+    let status = ask_into(op, mode, flags, x, y, &mut parts);
+    Answer {
+        status,
+        flags: parts[0],
+        steps: parts[1],
+        r: parts[2],
+        s: parts[3],
+    }
+}

@@ -1,6 +1,7 @@
-// What a program in another language calls: a request given as numbers, whether a divide would trap, one line,
-// a run over many lines, packed decimal strings added and subtracted, and answer lines read back. Nothing is
-// required of a caller but that each pointer leads to as many bytes as it says.
+// What a program in another language calls: a request given as numbers, whether a divide would trap, an
+// operation over registers that remember their steps, one line, a run over many lines, packed decimal strings
+// added and subtracted, and answer lines read back. Nothing is required of a caller but that each pointer leads
+// to as many bytes as it says, and that what is written overlaps nothing else that is lent.
 ghost use mathlib.Core.Path.{_≡_};
 ghost use Prim.Native.Nat.{_/_};
 ghost use lib.ListN.{length};
@@ -8,6 +9,7 @@ ghost use Rattle.line.specs.One.{statusIn, answered};
 ghost use Rattle.line.specs.Run.{done, runOf};
 ghost use Rattle.answer.specs.Asked.{statusOf, partsOf};
 ghost use Rattle.trap.specs.Told.{trapTold, wouldTrap};
+ghost use Rattle.registers.specs.Over.{over, registersOf, settledAs};
 ghost use Rattle.packed.specs.Sum.{plus, minus};
 ghost use Rattle.packed.specs.Told.{told, toldBy};
 ghost use Rattle.record.specs.Judge.{readBack};
@@ -17,6 +19,7 @@ use line::one;
 use line::run;
 use packed::string;
 use packed::told;
+use registers::by_number;
 
 // The table of statuses from 3 on. The answer's flags, steps, R and S go in, in this order.
 #[no_mangle]
@@ -40,6 +43,25 @@ pub extern "C" fn hatchyarn_would_trap(mode: u8, dividend: u32, divisor: u16, tr
     ensures { λ r. ⌜ trapTold r (now (trap .exit)) ≡ wouldTrap mode dividend divisor ⌝ }
 {
     trap::would_trap(mode, dividend, divisor, trap)
+}
+
+// An operation over AX, DX, the flags and the total of steps, which it changes in place; its steps go into
+// `steps`, and the status is returned. A divide that the chip refuses leaves AX and DX; its flags are stored,
+// and its steps go into the total. After 3, 4, 5 and 10 the four are as they were, and the steps are 0.
+#[no_mangle]
+pub extern "C" fn hatchyarn_registers(
+    op: u8,
+    mode: u8,
+    y: u16,
+    ax: &mut u16,
+    dx: &mut u16,
+    flags: &mut u16,
+    total: &mut u32,
+    steps: &mut u16,
+) -> u8
+    ensures { λ r. ⌜ settledAs r (now (steps .exit)) (registersOf (now (ax .exit)) (now (dx .exit)) (now (flags .exit)) (now (total .exit))) ≡ over op mode y (registersOf (now (ax .entry)) (now (dx .entry)) (now (flags .entry)) (now (total .entry))) ⌝ }
+{
+    by_number::operate(op, mode, y, ax, dx, flags, total, steps)
 }
 
 // One line without its line feed: the whole table.

@@ -17,15 +17,7 @@ use text::written;
 fn answer_fields(f: Fields) -> Answer
     ensures { λ a. ⌜ a ≡ asked (rawOf f) ⌝ }
 {
-    let mut parts = [0u16; 4];
-    let status = ask::ask_into(f.op, f.mode, f.flags, f.x, f.y, &mut parts);
-    Answer {
-        status,
-        flags: parts[0],
-        steps: parts[1],
-        r: parts[2],
-        s: parts[3],
-    }
+    ask::by_parts(f.op, f.mode, f.flags, f.x, f.y)
 }
 
 fn answer_read(read: Read) -> Answer

@@ -1,3 +1,6 @@
+pub mod SettleLaws
+pub mod OpLaws
 pub mod OverLaws
-mod Thin
-mod ThinBy
+pub mod TableLaws
+pub mod TiedLaws
+pub mod SessionLaws

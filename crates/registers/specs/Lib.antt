@@ -1,1 +1,4 @@
 pub mod Over
+pub mod Table
+pub mod Tied
+pub mod Session

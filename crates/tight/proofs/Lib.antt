@@ -7,10 +7,11 @@ pub mod OfMultiply
 pub mod OfDivide
 pub mod OfBcd
 pub mod OfPacked
-pub mod OfRegisters
 pub mod OfRequest
 pub mod OfAnswer
 pub mod OfTrap
+pub mod OfRegisters
+pub mod OfOperations
 pub mod OfText
 pub mod OfLine
 pub mod OfRecord

@@ -28,6 +28,9 @@ module _ {M : Type 1} where
   pub answer-of-divided16 : Tight M answer.of_divided16.signature answer.of_divided16.clauses
   answer-of-divided16 c g r s = plainly (c .𝓤) (λ e d. (same e d, refl))
 
+  pub answer-of-adjusted : Tight M answer.of_adjusted.signature answer.of_adjusted.clauses
+  answer-of-adjusted c g r s = plainly (c .𝓤) (λ e d. (same e d, refl))
+
   pub answer-adjust : Tight M answer.adjust.signature answer.adjust.clauses
   answer-adjust c g r s = plainly (c .𝓤) (λ e d. (same e d, refl))
 
@@ -39,3 +42,6 @@ module _ {M : Type 1} where
 
   pub ask-ask-into : Tight M ask.ask_into.signature ask.ask_into.clauses
   ask-ask-into c g r s = plainly (c .𝓤) (λ e d. (same (e .0) (d .0), λ i. (tt, (tt, (tt, (tt, (tt, (same (e .1) (d .1) i, tt))))))))
+
+  pub ask-by-parts : Tight M ask.by_parts.signature ask.by_parts.clauses
+  ask-by-parts c g r s = plainly (c .𝓤) (λ e d. (same e d, refl))

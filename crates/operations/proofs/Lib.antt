@@ -1,0 +1,3 @@
+pub mod NamedLaws
+mod Handed
+mod Thin
