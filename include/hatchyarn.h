@@ -41,7 +41,8 @@ enum hatchyarn_status {
 
 /*
  * Whether a status is that of a refused divide: true of exactly 6, 8 and 9. Where a refused divide means
- * closed, ask with it and never of one status alone; which of the three it is tells only why.
+ * closed, ask with it and never of one status alone; which of the three it is tells only why. (After
+ * HATCHYARN_TOTAL_FULL, which hatchyarn_registers alone gives, nothing is known of a divide: closed too.)
  */
 static inline bool hatchyarn_divide_refused(uint8_t status)
 {
@@ -105,7 +106,9 @@ enum hatchyarn_flag {
  *
  * After the statuses 3 to 5 all of it is 0. After a refused divide the steps are those up to the trap, r and
  * s are 0, and the flags are those that the handler of the trap finds in the word that the chip pushes; the
- * word's other bits are the caller's. C is clear. A, O, S, Z and P are those of a compare, left side less right:
+ * word's other bits are the caller's. (Over a register record, hatchyarn_registers, AX and DX stay as they
+ * were, these flags are stored, and the steps go into the total.) C is clear. A, O, S, Z and P are those of a
+ * compare, left side less right:
  *
  *   HATCHYARN_ZERO_DIVISOR, HATCHYARN_TOO_WIDE   the first: the dividend's upper half with the divisor
  *   HATCHYARN_SIGN_RANGE                         the last: X / 2 % Y * 2 + X % 2 with the divisor Y. The
@@ -160,6 +163,70 @@ uint8_t hatchyarn_ask(uint8_t op, uint8_t mode, uint16_t flags, uint32_t x, uint
  * byte. examples/list.c, in the sources, tells of each key of a list whether it is closed.
  */
 uint8_t hatchyarn_would_trap(uint8_t mode, uint32_t dividend, uint16_t divisor, uint8_t *trap);
+
+/* A status that hatchyarn_registers alone gives. No request gets it. */
+enum hatchyarn_registers_status {
+    HATCHYARN_TOTAL_FULL = 10 /* the total would pass 4,294,967,295, and nothing was changed */
+};
+
+/*
+ * An operation over registers that remember their steps: AX, DX, a flags word, and a running total. *total is
+ * the sum of the steps of all operations since it was 0, refused divides among them. So a session log shows
+ * *steps for each operation and *total for all, and adds nothing up. A fresh record has a total of 0, and any AX,
+ * DX and flags. Between two operations a program may store any AX, DX and flags, which leaves the total.
+ *
+ *   op                    reads              Y             stores, beside the flags and the total
+ *   MULTIPLY, 8 bits      AL                 the factor    the product in AX
+ *   MULTIPLY, 16 bits     AX                 the factor    its upper half in DX, its lower half in AX
+ *   DIVIDE, 8 bits        AX                 the divisor   the quotient in AL, the remainder in AH
+ *   DIVIDE, 16 bits       DX * 65536 + AX    the divisor   the quotient in AX, the remainder in DX
+ *   AAD                   AX                 its byte      AX
+ *   AAA, AAS, DAA, DAS    AX                 0             AX
+ *
+ * AL is the lower byte of AX and AH the upper. DX stays where the table does not name it. Modes are as for
+ * hatchyarn_ask. For an op of the table, results, flags, steps and status are those that hatchyarn_ask gives for
+ * the same mode, flags and Y, and for X as it is read; but hatchyarn_ask never gives HATCHYARN_TOTAL_FULL.
+ *
+ * Returns the first of these that applies:
+ *
+ *   HATCHYARN_BAD_OP         the op is not in the table, as none from ADD to SHL_AF is. The record stays
+ *   HATCHYARN_BAD_MODE       the mode has a bit above 0x04, or is not 0 for AAA to DAS. The record stays
+ *   HATCHYARN_TOO_LARGE      a bit of *flags is no flag; or Y is over 0xFF at 8 bits and for AAD, or not 0 for
+ *                            AAA, AAS, DAA and DAS. The record stays
+ *   HATCHYARN_TOTAL_FULL     *total and the steps are over 4,294,967,295 together. The record stays
+ *   HATCHYARN_ZERO_DIVISOR   the divide is refused, as with the next two. AX and DX stay
+ *   HATCHYARN_TOO_WIDE       AX and DX stay
+ *   HATCHYARN_SIGN_RANGE     AX and DX stay
+ *   HATCHYARN_DONE           else. The record is stored
+ *
+ * Where the record stays, AX, DX, the flags and the total are as they were, and *steps is 0. A refused divide
+ * leaves AX and DX as they were and stores the flags that hatchyarn_ask gives with the refusal; its steps, those
+ * up to the trap, are in *steps and go into the total. *steps is always written.
+ *
+ * After HATCHYARN_TOTAL_FULL note *total, set it to 0, and do the operation again: nothing was changed. A
+ * divide is then neither done nor refused; so where a refused divide means closed, take whatever is not
+ * HATCHYARN_DONE for closed. DAA and DAS take 0 steps, and never get it.
+ *
+ * The five pointers must lead to five different numbers. All but *steps are read, and written in place.
+ * examples/session.c, in the sources, keeps the log of a session.
+ */
+uint8_t hatchyarn_registers(uint8_t op, uint8_t mode, uint16_t y, uint16_t *ax, uint16_t *dx,
+                            uint16_t *flags, uint32_t *total, uint16_t *steps);
+
+/* The registers and their total in one place. A fresh one is {ax, dx, flags, 0}. */
+struct hatchyarn_register_record {
+    uint16_t ax;
+    uint16_t dx;
+    uint16_t flags; /* the sum of bits of hatchyarn_flag */
+    uint32_t total; /* of the steps: 0 in a fresh one, in a saved one as it was saved, and else left alone */
+};
+
+/* hatchyarn_registers over such a record. `steps` must not lead into it. */
+static inline uint8_t hatchyarn_operate(struct hatchyarn_register_record *record, uint8_t op, uint8_t mode,
+                                        uint16_t y, uint16_t *steps)
+{
+    return hatchyarn_registers(op, mode, y, &record->ax, &record->dx, &record->flags, &record->total, steps);
+}
 
 /*
  * Answers one request line of `length` bytes, given without its line feed. Returns the line's status.

@@ -210,6 +210,144 @@ static void would_trap(void)
         }
 }
 
+/* Operations over a register record: what is told of each, and the record before it and after. */
+static const struct operation {
+    const char *words;
+    uint8_t op, mode;
+    uint16_t y;
+    uint8_t status;
+    uint16_t steps;
+    struct hatchyarn_register_record before, after;
+} operations[] = {
+    {"0007 / 02", 0x11, 0x00, 2, HATCHYARN_DONE, 81,
+     {0x0007, 0xBEEF, 0x0000, 0}, {0x0103, 0xBEEF, 0x0001, 81}},
+    {"signed FFF9 / 02", 0x11, 0x02, 2, HATCHYARN_DONE, 106,
+     {0xFFF9, 0xBEEF, 0x08D5, 81}, {0xFFFD, 0xBEEF, 0x0000, 187}},
+    {"06260060 / 5678", 0x11, 0x01, 0x5678, HATCHYARN_DONE, 146,
+     {0x0060, 0x0626, 0x0801, 119}, {0x1234, 0x0000, 0x0095, 265}},
+    {"signed FFFFFFF9 / 0002", 0x11, 0x03, 2, HATCHYARN_DONE, 170,
+     {0xFFF9, 0xFFFF, 0x0000, 0}, {0xFFFD, 0xFFFF, 0x0000, 170}},
+    {"signed 80 x 80 under REP", 0x10, 0x06, 0x80, HATCHYARN_DONE, 89,
+     {0x1280, 0xBEEF, 0x0000, 5}, {0xC000, 0xBEEF, 0x0885, 94}},
+    {"1234 x 5678", 0x10, 0x01, 0x5678, HATCHYARN_DONE, 119,
+     {0x1234, 0xBEEF, 0x0000, 0}, {0x0060, 0x0626, 0x0801, 119}},
+    {"AAA", 0x18, 0x00, 0, HATCHYARN_DONE, 6,
+     {0x00FA, 0xBEEF, 0x0000, 7}, {0x0100, 0xBEEF, 0x0055, 13}},
+    {"AAS", 0x19, 0x00, 0, HATCHYARN_DONE, 6,
+     {0x0200, 0xBEEF, 0x0010, 7}, {0x010A, 0xBEEF, 0x0095, 13}},
+    {"AAD", 0x1A, 0x00, 10, HATCHYARN_DONE, 58,
+     {0x0305, 0xBEEF, 0x0000, 7}, {0x0023, 0xBEEF, 0x0000, 65}},
+    {"DAA", 0x1B, 0x00, 0, HATCHYARN_DONE, 0,
+     {0x129A, 0xBEEF, 0x0000, 7}, {0x1200, 0xBEEF, 0x0055, 7}},
+    {"DAS", 0x1C, 0x00, 0, HATCHYARN_DONE, 0,
+     {0x1200, 0xBEEF, 0x0011, 7}, {0x129A, 0xBEEF, 0x0095, 7}},
+
+    /* refused divides: AX and DX stay, and the flags handed in do not show */
+    {"0007 / 00", 0x11, 0x00, 0, HATCHYARN_ZERO_DIVISOR, 9,
+     {0x0007, 0xBEEF, 0x08D5, 81}, {0x0007, 0xBEEF, 0x0044, 90}},
+    {"00020000 / 0002", 0x11, 0x01, 2, HATCHYARN_TOO_WIDE, 9,
+     {0x0000, 0x0002, 0x08D5, 0}, {0x0000, 0x0002, 0x0044, 9}},
+    {"signed FF80 / 01", 0x11, 0x02, 1, HATCHYARN_SIGN_RANGE, 95,
+     {0xFF80, 0xBEEF, 0x0040, 111}, {0xFF80, 0xBEEF, 0x0014, 206}},
+
+    /* up to the end of the total */
+    {"a total of 4294967295", 0x11, 0x00, 2, HATCHYARN_DONE, 81,
+     {0x0007, 0xBEEF, 0x0000, UINT32_MAX - 81}, {0x0103, 0xBEEF, 0x0001, UINT32_MAX}},
+    {"a refused divide up to that", 0x11, 0x00, 0, HATCHYARN_ZERO_DIVISOR, 9,
+     {0x0007, 0xBEEF, 0x0000, UINT32_MAX - 9}, {0x0007, 0xBEEF, 0x0044, UINT32_MAX}},
+    {"DAA with a full total", 0x1B, 0x00, 0, HATCHYARN_DONE, 0,
+     {0x009A, 0xBEEF, 0x0010, UINT32_MAX}, {0x00A0, 0xBEEF, 0x0094, UINT32_MAX}},
+};
+enum { OPERATIONS = sizeof operations / sizeof *operations };
+
+/* Those that leave the record as it was. */
+static const struct operation left[] = {
+    {"a total past 4294967295", 0x11, 0x00, 2, HATCHYARN_TOTAL_FULL, 0, {0x0007, 0xBEEF, 0x0040, UINT32_MAX - 80}, {0}},
+    {"a refused divide past that", 0x11, 0x00, 0, HATCHYARN_TOTAL_FULL, 0, {0x0007, 0xBEEF, 0x0001, UINT32_MAX - 8}, {0}},
+    {"AAA with a full total", 0x18, 0x00, 0, HATCHYARN_TOTAL_FULL, 0, {0x00FA, 0xBEEF, 0x0000, UINT32_MAX}, {0}},
+
+    /* each of the others alone, and with all later ones beside it */
+    {"ADD", 0x00, 0x00, 1, HATCHYARN_BAD_OP, 0, {0x0007, 0xBEEF, 0x0000, 5}, {0}},
+    {"op 12, and all else", 0x12, 0x08, 0xFFFF, HATCHYARN_BAD_OP, 0, {0x0007, 0xBEEF, 0x0002, UINT32_MAX}, {0}},
+    {"AAA at 16 bits", 0x18, 0x01, 0, HATCHYARN_BAD_MODE, 0, {0x00FA, 0xBEEF, 0x0000, 5}, {0}},
+    {"mode 08, and all else", 0x11, 0x08, 0x0100, HATCHYARN_BAD_MODE, 0, {0x0007, 0xBEEF, 0x0002, UINT32_MAX}, {0}},
+    {"flags 0002, and all else", 0x11, 0x00, 0, HATCHYARN_TOO_LARGE, 0, {0x0007, 0xBEEF, 0x0002, UINT32_MAX}, {0}},
+    {"a divisor of 9 bits", 0x11, 0x02, 0x0102, HATCHYARN_TOO_LARGE, 0, {0x0007, 0xBEEF, 0x0000, 5}, {0}},
+    {"a factor of 9 bits", 0x10, 0x04, 0x0102, HATCHYARN_TOO_LARGE, 0, {0x0007, 0xBEEF, 0x0000, 5}, {0}},
+    {"AAD's byte of 9 bits", 0x1A, 0x00, 0x010A, HATCHYARN_TOO_LARGE, 0, {0x0305, 0xBEEF, 0x0000, 5}, {0}},
+    {"Y of DAS", 0x1C, 0x00, 1, HATCHYARN_TOO_LARGE, 0, {0x1200, 0xBEEF, 0x0011, 5}, {0}},
+};
+enum { LEFT = sizeof left / sizeof *left };
+
+static bool same(const struct hatchyarn_register_record *x, const struct hatchyarn_register_record *y)
+{
+    return x->ax == y->ax && x->dx == y->dx && x->flags == y->flags && x->total == y->total;
+}
+
+/* By five numbers that lie between guards. */
+static void by_numbers(const struct operation *each, const struct hatchyarn_register_record *after)
+{
+    const struct hatchyarn_register_record *was = &each->before;
+    uint16_t words[] = {0xA5A5, was->ax, 0xA5A5, was->dx, 0xA5A5, was->flags, 0xA5A5, 0xFFFF, 0xA5A5};
+    uint32_t totals[] = {0xA5A5A5A5, was->total, 0xA5A5A5A5};
+    uint8_t status = hatchyarn_registers(each->op, each->mode, each->y, &words[1], &words[3], &words[5], &totals[1],
+                                         &words[7]);
+    const struct hatchyarn_register_record is = {words[1], words[3], words[5], totals[1]};
+
+    expect(status == each->status && words[7] == each->steps && same(&is, after), each->words);
+    expect(totals[0] == 0xA5A5A5A5 && totals[2] == 0xA5A5A5A5, each->words);
+    for (size_t i = 0; i < sizeof words / sizeof *words; i += 2)
+        expect(words[i] == 0xA5A5, each->words);
+}
+
+/* Over a record that lies between two others. */
+static void over_a_record(const struct operation *each, const struct hatchyarn_register_record *after)
+{
+    const struct hatchyarn_register_record guard = {0xA5A5, 0xA5A5, 0xA5A5, 0xA5A5A5A5};
+    struct hatchyarn_register_record lent[] = {guard, each->before, guard};
+    uint16_t steps[] = {0xA5A5, 0xFFFF, 0xA5A5};
+
+    expect(hatchyarn_operate(&lent[1], each->op, each->mode, each->y, &steps[1]) == each->status
+               && steps[1] == each->steps && same(&lent[1], after), each->words);
+    expect(same(&lent[0], &guard) && same(&lent[2], &guard) && steps[0] == 0xA5A5 && steps[2] == 0xA5A5, each->words);
+}
+
+static void registers(void)
+{
+    for (const struct operation *each = operations; each < operations + OPERATIONS; each++) {
+        by_numbers(each, &each->after);
+        over_a_record(each, &each->after);
+    }
+    for (const struct operation *each = left; each < left + LEFT; each++) {
+        by_numbers(each, &each->before);
+        over_a_record(each, &each->before);
+    }
+}
+
+/* A session from a fresh record: AX is stored anew between two operations, one divide is refused, and the total is the
+   sum of the steps. When it is full it is noted and begun again. */
+static void a_session(void)
+{
+    struct hatchyarn_register_record record = {0xFF81, 0xBEEF, 0, 0};
+    const uint8_t signed8 = HATCHYARN_MODE_BYTE | HATCHYARN_MODE_SIGNED;
+    uint16_t steps;
+
+    expect(hatchyarn_operate(&record, HATCHYARN_OP_DIVIDE, signed8, 1, &steps) == HATCHYARN_DONE && steps == 111
+               && record.ax == 0x0081 && record.total == 111, "the first divide of a session");
+    record.ax = 0xFF80;
+    expect(hatchyarn_divide_refused(hatchyarn_operate(&record, HATCHYARN_OP_DIVIDE, signed8, 1, &steps)) && steps == 95
+               && record.ax == 0xFF80 && record.dx == 0xBEEF && record.total == 206, "the refused divide of a session");
+    expect(hatchyarn_operate(&record, HATCHYARN_OP_MULTIPLY, HATCHYARN_MODE_WORD, 2, &steps) == HATCHYARN_DONE
+               && record.dx == 1 && record.ax == 0xFF00 && record.total == 206U + steps, "the multiply of a session");
+    record.total = UINT32_MAX;
+    uint8_t full = hatchyarn_operate(&record, HATCHYARN_OP_DIVIDE, HATCHYARN_MODE_WORD, 2, &steps);
+    expect(full == HATCHYARN_TOTAL_FULL && !hatchyarn_divide_refused(full) && steps == 0 && record.dx == 1
+               && record.ax == 0xFF00 && record.total == UINT32_MAX, "the full total of a session");
+    record.total = 0;
+    expect(hatchyarn_operate(&record, HATCHYARN_OP_DIVIDE, HATCHYARN_MODE_WORD, 2, &steps) == HATCHYARN_DONE
+               && record.ax == 0xFF80 && record.dx == 0 && steps > 0 && record.total == steps, "a session begun again");
+}
+
 /* A loan from day 738123, of 28 days, to day 738151. */
 static const uint8_t day[] = {0x23, 0x81, 0x73}, days[] = {0x28, 0x00, 0x00}, due[] = {0x51, 0x81, 0x73};
 
@@ -492,6 +630,8 @@ int main(void)
     refusals();
     closed();
     would_trap();
+    registers();
+    a_session();
     packed_sums();
     packed_pieces();
     packed_refusals();

@@ -55,7 +55,9 @@ pub enum Refusal {
     Mode,
     /// Status 5: X or Y is too large, or a bit of the flags word is no flag.
     TooLarge,
-    /// The chip traps: status 6, 8 or 9, as `why` says. One arm serves all three.
+    /// The chip traps: status 6, 8 or 9, as `why` says. One arm serves all three. There is no result; over
+    /// [`Registers`](crate::registers::Registers) AX and DX stay as they were, the flags are stored, and the steps go
+    /// into the total.
     Divide {
         /// Which of the three it is.
         why: DivideRefusal,

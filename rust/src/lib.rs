@@ -42,9 +42,24 @@
 //! assert!(Operation::would_trap_each8(&keys, 0x01, true).eq([false, true, false]));
 //! ```
 //!
+//! A session works over [`registers::Registers`], which remember their steps: AX, DX, the flags, and a total that its
+//! log shows. A refused divide leaves AX and DX as they were, stores the flags, and its steps go into the total:
+//!
+//! ```
+//! use hatchyarn::registers::Registers;
+//! use hatchyarn::Flags;
+//!
+//! let mut session = Registers::new(0xFF81, 0, Flags::NONE);
+//! assert_eq!(session.div8(0x01, true, false)?, 111);
+//! assert!(session.div8(0x00, true, false).is_err());
+//! assert_eq!((session.ax, session.total()), (0x0081, 130));
+//! # Ok::<(), hatchyarn::registers::Refusal>(())
+//! ```
+//!
 //! Requests that come as text are answered line by line ([`answer_line`]) or as a whole
 //! ([`answer_all`]). Requests that come as numbers that nobody has checked go to [`raw::ask`], or
-//! to [`raw::would_trap`] where nothing else has to be known of a divide.
+//! to [`raw::would_trap`] where nothing else has to be known of a divide, or to
+//! [`raw::registers`](raw::registers()).
 //!
 //! Numbers of packed decimal digits, as loan cards hold them, are added and subtracted by
 //! [`packed::add`] and [`packed::subtract`].
@@ -60,6 +75,7 @@ mod operation;
 pub mod packed;
 pub mod raw;
 pub mod record;
+pub mod registers;
 mod trap;
 
 pub use answer::{Answer, DivideRefusal, Refusal};

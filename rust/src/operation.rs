@@ -102,15 +102,15 @@ pub enum Operation {
     },
 }
 
-const MULTIPLY: u8 = 0x10;
-const DIVIDE: u8 = 0x11;
+pub(crate) const MULTIPLY: u8 = 0x10;
+pub(crate) const DIVIDE: u8 = 0x11;
 const NEG: u8 = 0x04;
-const AAD: u8 = 0x1A;
+pub(crate) const AAD: u8 = 0x1A;
 
-const BYTE: u8 = 0x00;
-const WORD: u8 = 0x01;
+pub(crate) const BYTE: u8 = 0x00;
+pub(crate) const WORD: u8 = 0x01;
 
-fn mode(width: u8, signed: bool, rep: bool) -> u8 {
+pub(crate) fn mode(width: u8, signed: bool, rep: bool) -> u8 {
     width | (signed as u8) << 1 | (rep as u8) << 2
 }
 

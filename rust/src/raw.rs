@@ -1,10 +1,10 @@
-//! The eight functions as the static library has them.
+//! The nine functions as the static library has them.
 //!
 //! They are safe to call with anything: nothing is required of a caller, and every request gets an
 //! answer. Use them for requests that come from elsewhere as numbers or as text; a program that
-//! writes its own requests is better served by [`Operation`](crate::Operation), one that adds packed
-//! decimal numbers by [`packed`](crate::packed), and one that reads answer lines back by
-//! [`record`](crate::record).
+//! writes its own requests is better served by [`Operation`](crate::Operation), one that keeps a log of
+//! steps by [`registers`](crate::registers), one that adds packed decimal numbers by
+//! [`packed`](crate::packed), and one that reads answer lines back by [`record`](crate::record).
 
 /// What [`ask`] answers.
 #[derive(Clone, Copy, Debug, PartialEq, Eq, Hash)]
@@ -28,6 +28,27 @@ pub struct WouldTrap {
     pub trap: bool,
 }
 
+/// What [`registers`](registers()) works over. A fresh one has a total of 0, and any other numbers. Between two
+/// operations a program may store any `ax`, `dx` and `flags`, which leaves the total.
+#[derive(Clone, Copy, Debug, PartialEq, Eq, Hash)]
+pub struct RegisterRecord {
+    pub ax: u16,
+    pub dx: u16,
+    pub flags: u16,
+    /// The sum of the steps of all operations since it was 0.
+    pub total: u32,
+}
+
+/// What [`registers`](registers()) answers.
+#[derive(Clone, Copy, Debug, PartialEq, Eq, Hash)]
+pub struct Stepped {
+    /// 0 where the operation was done; 3, 4 or 5 where it cannot be asked, or 10 where the total is full, and
+    /// nothing was changed; 6, 8 or 9 where the chip refuses the divide.
+    pub status: u8,
+    /// The steps, which went into the total. They are 0 after 3, 4, 5 and 10.
+    pub steps: u16,
+}
+
 /// What [`run`] did.
 #[derive(Clone, Copy, Debug, PartialEq, Eq, Hash)]
 pub struct Ran {
@@ -42,6 +63,16 @@ mod linked {
     extern "C" {
         pub fn hatchyarn_ask(op: u8, mode: u8, flags: u16, x: u32, y: u16, answer: *mut u16) -> u8;
         pub fn hatchyarn_would_trap(mode: u8, dividend: u32, divisor: u16, trap: *mut u8) -> u8;
+        pub fn hatchyarn_registers(
+            op: u8,
+            mode: u8,
+            y: u16,
+            ax: *mut u16,
+            dx: *mut u16,
+            flags: *mut u16,
+            total: *mut u32,
+            steps: *mut u16,
+        ) -> u8;
         pub fn hatchyarn_line(line: *const u8, length: usize, out: *mut u8, room: usize) -> u8;
         pub fn hatchyarn_run(
             text: *const u8,
@@ -110,6 +141,37 @@ pub fn would_trap(mode: u8, dividend: u32, divisor: u16) -> WouldTrap {
     let status = unsafe { linked::hatchyarn_would_trap(mode, dividend, divisor, &mut trap) };
     let trap = trap != 0;
     WouldTrap { status, trap }
+}
+
+/// Does an operation over registers that remember their steps. It reads X from them and is given Y; what is
+/// stored, and the steps, are what [`ask`] gives for the same numbers.
+///
+/// | op | X | Y | stored beside the flags and the total |
+/// |---|---|---|---|
+/// | `0x10` multiply, 8 bits | AL | the factor | the product in AX |
+/// | `0x10` multiply, 16 bits | AX | the factor | its upper half in DX, its lower half in AX |
+/// | `0x11` divide, 8 bits | AX | the divisor | the quotient in AL, the remainder in AH |
+/// | `0x11` divide, 16 bits | DX * 65536 + AX | the divisor | the quotient in AX, the remainder in DX |
+/// | `0x1A` AAD | AX | its byte | AX |
+/// | `0x18` AAA, `0x19` AAS, `0x1B` DAA, `0x1C` DAS | AX | 0 | AX |
+///
+/// The status is 3 where the op is none of these; else 4 where the mode has a bit above `0x04`, or is not 0 for
+/// `0x18` to `0x1C`; else 5 where a bit of the flags word is no flag, or `y` is too large; else 10 where the total
+/// would pass 4,294,967,295; else 6, 8 or 9 where the chip refuses the divide; else 0. After 3, 4, 5 and 10 the
+/// record is as it was. After 6, 8 and 9 AX and DX are as they were, the flags are those of the refusal, and the
+/// steps are in the total.
+pub fn registers(op: u8, mode: u8, y: u16, record: &mut RegisterRecord) -> Stepped {
+    let RegisterRecord {
+        ax,
+        dx,
+        flags,
+        total,
+    } = record;
+    let mut steps = 0;
+    // SAFETY: the function reads and writes four numbers and writes a fifth, and the five are apart.
+    let status =
+        unsafe { linked::hatchyarn_registers(op, mode, y, ax, dx, flags, total, &mut steps) };
+    Stepped { status, steps }
 }
 
 /// Answers one line, given without its line feed. The answer's 19 bytes go to the front of `out`.
