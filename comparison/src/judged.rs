@@ -77,7 +77,7 @@ fn about(limit: u32, most: u32) -> Vec<u32> {
 }
 
 /// Every word; in the quick form each single bit, none, all, and some that are drawn.
-fn flag_words(form: Form, draw: &mut Draw) -> Vec<u16> {
+pub fn flag_words(form: Form, draw: &mut Draw) -> Vec<u16> {
     if form.full {
         return (0x0000..=0xFFFF).collect();
     }

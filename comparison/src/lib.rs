@@ -17,6 +17,7 @@ pub mod lines;
 pub mod packed;
 pub mod plan;
 pub mod refused_flags;
+pub mod registers;
 pub mod section;
 pub mod sides;
 pub mod tally;

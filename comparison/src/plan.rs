@@ -4,11 +4,18 @@ use crate::answers::{over_texts, sections as answers};
 use crate::form::Form;
 use crate::lines::sections as lines;
 use crate::packed::sections as packed;
+use crate::registers::{refusals, sections as registers, sequences};
 use crate::section::Section;
 use crate::trap::sections as trap;
 use crate::{bytes, judged, refused, words};
 
 pub fn sections(form: Form) -> Vec<Section> {
+    let all = [of_requests(form), over_bytes(form), over_numbers(form)];
+    all.into_iter().flatten().collect()
+}
+
+/// What MartyPC has too.
+fn of_requests(form: Form) -> Vec<Section> {
     vec![
         bytes::alu(form),
         bytes::multiply(form),
@@ -21,6 +28,12 @@ pub fn sections(form: Form) -> Vec<Section> {
         refused::words(form),
         judged::ops_and_modes(form),
         judged::limits(form),
+    ]
+}
+
+/// The functions that are lent texts or packed digits.
+fn over_bytes(form: Form) -> Vec<Section> {
+    vec![
         lines::damaged(form),
         lines::rooms(form),
         lines::runs(form),
@@ -39,11 +52,29 @@ pub fn sections(form: Form) -> Vec<Section> {
         answers::faults(form),
         over_texts::places(form),
         over_texts::of_runs(form),
+    ]
+}
+
+/// The functions that are lent numbers: what would trap, and those over a register record.
+fn over_numbers(form: Form) -> Vec<Section> {
+    vec![
         trap::bytes(form),
         trap::words(form),
         trap::borders(form),
         trap::limits(form),
         trap::martypc(form),
         trap::befores(form),
+        registers::divides(form),
+        registers::multiplies(form),
+        registers::adjusts(form),
+        registers::aad(form),
+        registers::at_edges(form),
+        registers::words(form),
+        refusals::totals(form),
+        refusals::limits(form),
+        refusals::ops_and_modes(form),
+        refusals::faults(form),
+        sequences::fresh(form),
+        sequences::into_the_end(form),
     ]
 }

@@ -5,6 +5,7 @@ use crate::asked::Asked;
 use crate::divides::Divides;
 use crate::packed::loan;
 use crate::refused_flags::Ruled;
+use crate::registers;
 use crate::sides::{self, digits, fields_apart, names_apart, Numbers, Side};
 use crate::trap;
 
@@ -24,6 +25,8 @@ pub struct Tally {
     pub answers: answers::loan::Side,
     /// In place of the port's function that tells what would trap.
     pub trap: trap::loan::Side,
+    /// In place of the port's function over a register record.
+    pub registers: registers::loan::Side,
     pub compared: u64,
     pub divides: Divides,
     /// How many answers differ. One is enough to fail.
@@ -38,6 +41,7 @@ impl Tally {
             packed: loan::ours,
             answers: answers::loan::ours,
             trap: trap::loan::ours,
+            registers: registers::loan::ours,
             compared: 0,
             divides: Divides::default(),
             differing: 0,
@@ -60,12 +64,18 @@ impl Tally {
         Tally { trap, ..self }
     }
 
+    /// The same, with another side over a register record than the port.
+    pub fn with_registers(self, registers: registers::loan::Side) -> Tally {
+        Tally { registers, ..self }
+    }
+
     /// One that has seen nothing, with the same sides in place of the port.
     pub fn fresh(&self) -> Tally {
         Tally::new(self.ours)
             .with_packed(self.packed)
             .with_answers(self.answers)
             .with_trap(self.trap)
+            .with_registers(self.registers)
     }
 
     /// Asks both sides, and holds the port to MartyPC.

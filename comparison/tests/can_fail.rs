@@ -11,10 +11,12 @@ use comparison::packed::held::hold;
 use comparison::packed::loan::{self, Loan};
 use comparison::plan;
 use comparison::refused_flags::{Divide, Ruled};
+use comparison::registers;
 use comparison::sides::{fields_apart, ours, theirs, Numbers, Side};
 use comparison::tally::{Tally, MOST_SHOWN};
 use comparison::trap;
 use hatchyarn::raw::{self, Ran};
+use oracle::draw::Draw;
 use oracle::edges;
 use oracle::request::Operation;
 use std::convert::Infallible;
@@ -530,5 +532,138 @@ fn a_wrong_part_of_what_would_trap_is_found_and_named() {
             hold_over(&mut tally, before, call, 0x08D5);
             assert_eq!((tally.compared, tally.differing), (1, 0));
         }
+    }
+}
+
+fn with_registers(side: registers::loan::Side) -> Tally {
+    Tally::new(ours).with_registers(side)
+}
+
+/// Has each wrong rule stand in place of the port in the sections that have to find it.
+fn find(rules: &[wrong::registers::Rule]) {
+    for (name, side, sections) in rules {
+        for section in *sections {
+            let tally = run(section, with_registers(*side));
+            assert!(tally.differing > 0, "{name}, {section}");
+        }
+    }
+}
+
+#[test]
+fn what_is_stored_wrongly_in_a_record_is_found() {
+    find(&wrong::registers::stored::RULES);
+}
+
+#[test]
+fn what_is_refused_wrongly_over_a_record_is_found() {
+    find(&wrong::registers::refused::RULES);
+    for section in wrong::registers::SECTIONS {
+        assert_eq!(run(section, Tally::new(ours)).differing, 0, "{section}");
+    }
+}
+
+/// The reference agrees with what is done over the record, and the port by value does not.
+#[test]
+fn an_answer_by_value_that_says_otherwise_is_found() {
+    let side: Side = |asked| Numbers {
+        flags: ours(asked).flags ^ 1,
+        ..ours(asked)
+    };
+    for section in wrong::registers::ADMITTED {
+        let tally = run(section, Tally::new(side));
+        assert_eq!(tally.differing, tally.compared, "{section}");
+        let is_told = |shown: &String| shown.ends_with(": the answer by value differ");
+        assert!(tally.shown.iter().all(is_told), "{:?}", tally.shown);
+    }
+}
+
+/// The port, but that something else of the loan is changed.
+fn beside(
+    call: registers::call::Call,
+    loan: &mut registers::loan::Loan,
+    wrong: fn(&mut registers::loan::Loan),
+) -> u8 {
+    let status = registers::loan::ours(call, loan);
+    wrong(loan);
+    status
+}
+
+/// Each part of what comes of a call, and a port that has it wrong.
+const WRONG_PARTS_OF_REGISTERS: [(&str, registers::loan::Side); 6] = [
+    ("status", |call, loan| registers::loan::ours(call, loan) ^ 1),
+    ("AX", |call, loan| {
+        beside(call, loan, |loan| loan.ax.lent ^= 0x8000)
+    }),
+    ("DX", |call, loan| {
+        beside(call, loan, |loan| loan.dx.lent ^= 1)
+    }),
+    ("flags", |call, loan| {
+        beside(call, loan, |loan| loan.flags.lent ^= 0x0800)
+    }),
+    ("total", |call, loan| {
+        beside(call, loan, |loan| loan.total.lent ^= 1 << 31)
+    }),
+    ("steps", |call, loan| {
+        beside(call, loan, |loan| loan.steps.lent ^= 1)
+    }),
+];
+
+/// Writes beside each of the five numbers, on either side.
+const WRITTEN_BESIDE: [registers::loan::Side; 10] = [
+    |call, loan| beside(call, loan, |loan| loan.ax.before[3] ^= 1),
+    |call, loan| beside(call, loan, |loan| loan.ax.after[0] ^= 1),
+    |call, loan| beside(call, loan, |loan| loan.dx.before[3] ^= 1),
+    |call, loan| beside(call, loan, |loan| loan.dx.after[0] ^= 1),
+    |call, loan| beside(call, loan, |loan| loan.flags.before[3] ^= 1),
+    |call, loan| beside(call, loan, |loan| loan.flags.after[0] ^= 1),
+    |call, loan| beside(call, loan, |loan| loan.total.before[3] ^= 1),
+    |call, loan| beside(call, loan, |loan| loan.total.after[0] ^= 1),
+    |call, loan| beside(call, loan, |loan| loan.steps.before[3] ^= 1),
+    |call, loan| beside(call, loan, |loan| loan.steps.after[0] ^= 1),
+];
+
+/// Op, mode, Y, AX and total of a call that is done, a refused divide, and the four after which all is as it was.
+const OVER_A_RECORD: [(u8, u8, u16, u16, u32); 6] = [
+    (0x11, 0x00, 0x02, 0x0007, 0),
+    (0x11, 0x02, 0x01, 0xFF80, 1),
+    (0x00, 0x00, 0x02, 0x0007, 2),
+    (0x18, 0x01, 0x00, 0x0007, 3),
+    (0x10, 0x00, 0x100, 0x0007, 4),
+    (0x11, 0x00, 0x02, 0x0007, u32::MAX),
+];
+
+/// Has one call over a record answered by a side, and returns the tally.
+fn held_over(
+    side: registers::loan::Side,
+    (op, mode, y, ax, total): (u8, u8, u16, u16, u32),
+) -> Tally {
+    let record = registers::call::Record {
+        ax,
+        total,
+        ..Default::default()
+    };
+    let call = registers::call::Call { op, mode, y };
+    let mut tally = with_registers(side);
+    registers::held::hold(&mut tally, &mut Draw::new(1), call, record);
+    tally
+}
+
+#[test]
+fn a_wrong_part_of_a_call_over_a_record_is_found_and_named() {
+    for over in OVER_A_RECORD {
+        for (part, side) in WRONG_PARTS_OF_REGISTERS {
+            let tally = held_over(side, over);
+            let told = format!(": {part}, the answer by value, MartyPC's answer differ");
+            let [shown] = &tally.shown[..] else {
+                panic!("{:?}", tally.shown)
+            };
+            assert!(shown.ends_with(&told), "{shown}");
+        }
+        for side in WRITTEN_BESIDE {
+            let tally = held_over(side, over);
+            assert!(tally.shown[0].ends_with(": numbers beside differ"));
+        }
+        let tally = held_over(registers::loan::ours, over);
+        assert_eq!((tally.compared, tally.differing), (1, 0));
     }
 }

@@ -9,7 +9,7 @@ use comparison::packed::careful as packed;
 use comparison::packed::{loan, tabled};
 use comparison::sides::{ours, theirs};
 use comparison::tally::Tally;
-use comparison::{careful, filter, plan, trap};
+use comparison::{careful, filter, plan, registers, trap};
 use oracle::draw::Draw;
 use oracle::request::Operation;
 use oracle::{edges, malformed};
@@ -149,6 +149,26 @@ fn what_would_trap_by_the_hosts_division_is_as_in_the_reference() {
     assert_eq!(held.len(), 6);
     for held in held {
         assert!(held.compared > 10_000);
+        assert_eq!(held.differing, 0, "{:?}", held.shown);
+    }
+}
+
+/// Stands in place of the port in all sections over a register record.
+#[test]
+fn answers_by_value_put_back_are_as_in_the_reference() {
+    let sections = plan::sections(QUICK).into_iter();
+    let tally = Tally::new(ours);
+    let tally = tally.with_registers(|call, loan| {
+        let (mut record, mut steps) = (loan.record(), loan.steps.lent);
+        let status = registers::careful::operate(call, &mut record, &mut steps);
+        loan.put(record, steps);
+        status
+    });
+    let of_registers = sections.filter(|section| section.name.starts_with("registers, "));
+    let held: Vec<Tally> = of_registers.map(|section| section.run(1, &tally)).collect();
+    assert_eq!(held.len(), 12);
+    for held in held {
+        assert!(held.compared > 100_000);
         assert_eq!(held.differing, 0, "{:?}", held.shown);
     }
 }

@@ -13,6 +13,7 @@ mod memory;
 pub mod packed;
 pub mod programs;
 mod refused;
+pub mod registers;
 mod rounds;
 mod table;
 pub mod trap;

@@ -1,4 +1,4 @@
-//! Rounds of two jobs in turn, so that what else the machine does falls on both alike.
+//! Rounds of two jobs or more in turn, so that what else the machine does falls on all alike.
 
 use std::fmt;
 
@@ -53,9 +53,18 @@ pub fn in_turn<E>(
     Ok(times.map(Spread::of))
 }
 
+/// The same of as many jobs as there are. None of them can fail.
+pub fn all_in_turn<const N: usize>(rounds: usize, jobs: [&dyn Fn() -> f64; N]) -> [Spread; N] {
+    let one_round = |_| jobs.map(|job| job());
+    let all: Vec<[f64; N]> = (0..=rounds).map(one_round).collect();
+    let measured = |job: usize| all[1..].iter().map(|round| round[job]).collect();
+    std::array::from_fn(|job| Spread::of(measured(job)))
+}
+
 #[cfg(test)]
 mod tests {
     use super::*;
+    use std::cell::Cell;
 
     #[test]
     fn median_and_spread_leave_out_the_first() {
@@ -64,5 +73,17 @@ mod tests {
         let [one, other] = in_turn(3, one, || Ok(5.0)).unwrap();
         assert_eq!(format!("{one:.0}"), "2 (1 to 3)");
         assert_eq!(other.median, 5.0);
+    }
+
+    #[test]
+    fn three_jobs_have_their_turns() {
+        let turns = Cell::new(0.0);
+        let next = || {
+            turns.set(turns.get() + 1.0);
+            turns.get()
+        };
+        let spreads = all_in_turn(3, [&next, &next, &next]);
+        let told = spreads.map(|spread| format!("{spread:.0}"));
+        assert_eq!(told, ["7 (4 to 10)", "8 (5 to 11)", "9 (6 to 12)"]);
     }
 }

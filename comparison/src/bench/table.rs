@@ -92,6 +92,15 @@ pub fn in_turn(one: impl Fn(), other: impl Fn()) -> [Spread; 2] {
     times
 }
 
+/// The same of three passes. A call by a pointer to a pass is not seen beside the calls of the pass.
+pub fn three_in_turn([one, two, three]: [&dyn Fn(); 3]) -> [Spread; 3] {
+    let timed = |pass: &dyn Fn()| {
+        let Ok(time) = timed(pass);
+        time
+    };
+    rounds::all_in_turn(ROUNDS, [&|| timed(one), &|| timed(two), &|| timed(three)])
+}
+
 #[inline(always)]
 fn timed(pass: impl Fn()) -> Result<f64, Infallible> {
     let start = Instant::now();

@@ -6,6 +6,7 @@ use comparison::bench::calls;
 use comparison::bench::functions;
 use comparison::bench::packed;
 use comparison::bench::programs::Programs;
+use comparison::bench::registers;
 use comparison::bench::trap;
 use std::process::ExitCode;
 
@@ -18,6 +19,7 @@ use:
   bench packed                                  packed digits, by operation and length
   bench answers                                 answer lines read back, good ones and malformed
   bench trap                                    what would trap, by divide and keys
+  bench registers                               over a register record, by operation
   bench programs HATCHYARN FILTER FOLDER        whole programs; files are made in FOLDER
 
 exit: 0 measured, 1 the two sides answer differently or a file failed, 2 not understood
@@ -33,6 +35,7 @@ fn main() -> ExitCode {
         ["packed"] => packed::print(),
         ["answers"] => answers::print(),
         ["trap"] => trap::print(),
+        ["registers"] => registers::print(),
         ["programs", ours, theirs, folder] => Programs {
             ours: ours.into(),
             theirs: theirs.into(),
