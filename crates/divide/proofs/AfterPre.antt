@@ -5,8 +5,8 @@ use Prim.Native.Nat.{ℕ, _+_, _*_, _/_, _%_, _^_, _≤_, _<_}
 use native.Mathlib.Omega.{arith}
 use Rattle.flags.specs.declared.word.Flags.{Flags}
 use Rattle.negate.specs.Negate.{Negate}
-use Rattle.divide.specs.Cord as Cord
-use Rattle.divide.specs.Cord.{Results, CordAnswer, cord}
+use Rattle.cord.specs.Cord as Cord
+use Rattle.cord.specs.Cord.{Results, CordAnswer, cord}
 use Rattle.divide.specs.Idiv.{PostAnswer, preIdiv, postIdiv}
 use Rattle.divide.specs.Flags.{compareFlags}
 use Rattle.divide.specs.Divide.{refused, dividendOf, divisorOf, preSteps, divide}

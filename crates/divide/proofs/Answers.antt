@@ -12,7 +12,7 @@ use Rattle.flags.specs.Numbers.{top, topSet, signed, valued, magnitude, wrapped
 use Rattle.flags.specs.declared.word.Flags.{Flags}
 use Rattle.flags.proofs.SignLaws.{magnitude-plain, plain-lt, signed-wrapped, wrapped-sign}
 use Rattle.divide.specs.Divide.{accepted, accepts, quotientOf, remainderOf, quotientReturned, divide}
-use Rattle.divide.specs.Cord.{Results}
+use Rattle.cord.specs.Cord.{Results}
 use Rattle.divide.specs.Manual.{Division, inRange, isRefused}
 use Rattle.divide.proofs.Manual.{quotient-determined, division-holds, range-signed, range-unsigned, manual-accepts}
 

@@ -17,10 +17,10 @@ use Rattle.flags.specs.declared.word.Flags.{Flags}
 use Rattle.flags.proofs.Powers.{top-twice}
 use Rattle.flags.proofs.SignLaws.{signOf, plain, signed-by, abs-sign, quot-sign, rem-sign, wrapped-sign, plain-lt, plain-by, magnitude-plain, neg-once-more, xor-assoc, top-upper}
 use Rattle.negate.specs.Negate.{Pair, Negate}
-use Rattle.divide.proofs.CordLaws.{most-ones}
+use Rattle.cord.proofs.CordLaws.{most-ones}
 use Rattle.divide.proofs.Borders.{wide-true, wide-false}
-use Rattle.divide.specs.Cord as Cord
-use Rattle.divide.specs.Cord.{Results, CordAnswer, lastCompare, cordSteps, cordRefused, cordAccepted, cord}
+use Rattle.cord.specs.Cord as Cord
+use Rattle.cord.specs.Cord.{Results, CordAnswer, lastCompare, cordSteps, cordRefused, cordAccepted, cord}
 use Rattle.divide.specs.Idiv as Idiv
 use Rattle.divide.specs.Idiv.{preIdiv, withSign, postIdiv}
 use Rattle.divide.specs.Flags.{compareFlags}

@@ -14,7 +14,7 @@ use Rattle.alu.specs.Result.{ResultCoa}
 use Rattle.alu.specs.Sum.{neg}
 use Rattle.alu.proofs.SumLaws.{neg-result}
 use Rattle.negate.specs.Negate.{Pair, Negate, pair, second, corNegate}
-use Rattle.divide.specs.Cord.{Results}
+use Rattle.cord.specs.Cord.{Results}
 use Rattle.divide.specs.Idiv.{preIdiv, withSign, PostAnswer, accepted, refused, postIdiv}
 
 abbrev later : Pair → ℕ → Pair

@@ -1,6 +1,3 @@
-pub mod CordLaws
-pub mod Turning
-pub mod RoadLaws
 pub mod IdivLaws
 pub mod FlagLaws
 pub mod Borders

@@ -14,11 +14,11 @@ use Rattle.flags.specs.declared.word.Flags.{Flags}
 use Rattle.flags.proofs.Powers.{top-twice}
 use Rattle.flags.proofs.SignLaws.{abs-sign}
 use Rattle.divide.specs.Divide.{accepts, quotientOf, dividendOf, divisorOf, atFirst, preSteps, refusedSteps, divide}
-use Rattle.divide.specs.Cord.{noBorrows}
+use Rattle.cord.specs.Cord.{noBorrows}
 use Rattle.divide.specs.StepLog.{shelfMagnitude, logged}
 use Rattle.divide.proofs.DivLaws.{below, divisor-half, pre-most, zero-or-not, rule, quotient-by}
-use Rattle.divide.proofs.CordLaws.{most-ones}
-use Rattle.divide.proofs.RoadLaws.{plain-ones}
+use Rattle.cord.proofs.CordLaws.{most-ones}
+use Rattle.cord.proofs.RoadLaws.{plain-ones}
 
 module _ (n d b : ℕ) (rep : Bool) (f : Flags) (hn : 0 < n) (hd : d < 2 ^ (n + n)) (hb : b < 2 ^ n) (agreed : accepts n true d b ≡ true) where
   divisor-pos : 0 < divisorOf n true b

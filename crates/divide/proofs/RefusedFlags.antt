@@ -16,12 +16,12 @@ use Rattle.flags.specs.declared.word.Flags.{Flags}
 use Rattle.alu.specs.Result.{ResultCoa}
 use Rattle.alu.specs.Sum.{sub}
 use Rattle.alu.proofs.SumLaws.{sub-nothing}
-use Rattle.divide.specs.Cord.{shifted, Road, roadBy, lastBy, lastCompare}
+use Rattle.cord.specs.Cord.{shifted, Road, roadBy, lastBy, lastCompare}
 use Rattle.divide.specs.Flags.{compareFlags}
 use Rattle.divide.specs.Divide.{Divided, refused, applies, dividendOf, divisorOf, atFirst, refusedFlags, divide}
 use Rattle.divide.specs.declared.div.Refusal.{Refusal}
 use Rattle.divide.specs.declared.div.Refusal.the-variants.{ZeroDivisor, TooWide, SignRange}
-use Rattle.divide.proofs.RoadLaws.{never-out}
+use Rattle.cord.proofs.RoadLaws.{never-out}
 use Rattle.divide.proofs.DivLaws.{divisor-half}
 use Rattle.divide.proofs.Answers.{nothing}
 use Rattle.divide.proofs.Refusals.{first-two, one-alone, refused-whole, refused-for}

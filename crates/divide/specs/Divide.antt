@@ -8,7 +8,7 @@ use lib.Signed.{quotZ, remZ}
 use Rattle.flags.specs.Numbers.{between, top, topSet, valued, magnitude, wrapped}
 use Rattle.flags.specs.Word.{setCO}
 use Rattle.flags.specs.declared.word.Flags.{Flags}
-use Rattle.divide.specs.Cord.{Results, lastCompare, cordSteps}
+use Rattle.cord.specs.Cord.{Results, lastCompare, cordSteps}
 use Rattle.divide.specs.Flags.{compareFlags}
 use Rattle.divide.specs.declared.div.Refusal.{Refusal}
 use Rattle.divide.specs.declared.div.Refusal.the-variants.{ZeroDivisor, TooWide, SignRange}

@@ -4,7 +4,7 @@ use mathlib.Core.Bool.{Bool, true, false, cond, xor}
 use Prim.Native.Nat.{ℕ, _+_, _*_, _/_, _%_, _^_}
 use Rattle.flags.specs.Numbers.{topSet, negated}
 use Rattle.negate.specs.Negate.{Pair, Negate}
-use Rattle.divide.specs.Cord.{Results}
+use Rattle.cord.specs.Cord.{Results}
 
 -- two's complement: x, or x taken from 0 where the sign is to be given or taken away
 abbrev pub withSign : ℕ → Bool → ℕ → ℕ

@@ -1,5 +1,3 @@
-pub mod Round
-pub mod Cord
 pub mod Idiv
 pub mod Flags
 pub mod Divide

@@ -12,7 +12,7 @@ use Rattle.alu.specs.Sum.{adc, sbb}
 use Rattle.alu.specs.Step.{left, right, step, steps}
 use Rattle.alu.specs.Shift.{leftward, rightward, downward}
 use Rattle.multiply.specs.Multiply.{multiply}
-use Rattle.divide.specs.Cord.{road, tally, lastCompare}
+use Rattle.cord.specs.Cord.{road, tally, lastCompare}
 use Rattle.divide.specs.Flags.{compareFlags}
 use Rattle.divide.specs.Divide.{refusalOf, divide}
 use Rattle.bcd.specs.Ascii.{ascii, aaaOf}

@@ -4,6 +4,7 @@ pub mod OfFlags
 pub mod OfAlu
 pub mod OfNegate
 pub mod OfMultiply
+pub mod OfCord
 pub mod OfDivide
 pub mod OfBcd
 pub mod OfPacked

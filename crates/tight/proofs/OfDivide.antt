@@ -1,19 +1,12 @@
 -- Each public function of `divide` has a tight contract. Assumes nothing.
 use mathlib.Core.Path.{refl}
-use Rattle.divide.proofs.cord
 use Rattle.divide.proofs.div
 use Rattle.divide.proofs.idiv
 use Rattle.tight.specs.Tight.{Tight}
 use Rattle.tight.proofs.Law.{plainly, through}
-use Rattle.tight.proofs.Views.{cordAnswer8-faithful, cordAnswer16-faithful, divided8-faithful, divided16-faithful, negate8-faithful, negate16-faithful, post8Answer-faithful, post16Answer-faithful}
+use Rattle.tight.proofs.Views.{divided8-faithful, divided16-faithful, negate8-faithful, negate16-faithful, post8Answer-faithful, post16Answer-faithful}
 
 module _ {M : Type 1} where
-  pub cord-cord8 : Tight M cord.cord8.signature cord.cord8.clauses
-  cord-cord8 c g r s = plainly (c .𝓤) (λ e d. (through cordAnswer8-faithful e d, refl))
-
-  pub cord-cord16 : Tight M cord.cord16.signature cord.cord16.clauses
-  cord-cord16 c g r s = plainly (c .𝓤) (λ e d. (through cordAnswer16-faithful e d, refl))
-
   pub div-div8 : Tight M div.div8.signature div.div8.clauses
   div-div8 c g r s = plainly (c .𝓤) (λ e d. (through divided8-faithful e d, refl))
 

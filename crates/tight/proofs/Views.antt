@@ -23,13 +23,13 @@ use Rattle.multiply.specs.declared.corx.Halves16.{Halves16}
 use Rattle.multiply.specs.Routines.{Multiplied}
 use Rattle.multiply.specs.declared.mul.Product8.{Product8}
 use Rattle.multiply.specs.declared.mul.Product16.{Product16}
-use Rattle.divide.specs.Cord as Cord
-use Rattle.divide.specs.declared.cord.CordAnswer8.{CordAnswer8}
-use Rattle.divide.specs.declared.cord.CordOutcome8.{CordOutcome8}
-use Rattle.divide.specs.declared.cord.CordOutcome8.the-variants.{Accepted as cordAccepted8, Refused as cordRefused8}
-use Rattle.divide.specs.declared.cord.CordAnswer16.{CordAnswer16}
-use Rattle.divide.specs.declared.cord.CordOutcome16.{CordOutcome16}
-use Rattle.divide.specs.declared.cord.CordOutcome16.the-variants.{Accepted as cordAccepted16, Refused as cordRefused16}
+use Rattle.cord.specs.Cord as Cord
+use Rattle.cord.specs.declared.CordAnswer8.{CordAnswer8}
+use Rattle.cord.specs.declared.CordOutcome8.{CordOutcome8}
+use Rattle.cord.specs.declared.CordOutcome8.the-variants.{Accepted as cordAccepted8, Refused as cordRefused8}
+use Rattle.cord.specs.declared.CordAnswer16.{CordAnswer16}
+use Rattle.cord.specs.declared.CordOutcome16.{CordOutcome16}
+use Rattle.cord.specs.declared.CordOutcome16.the-variants.{Accepted as cordAccepted16, Refused as cordRefused16}
 use Rattle.divide.specs.Idiv as Idiv
 use Rattle.divide.specs.declared.idiv.PostIdiv8.{PostIdiv8}
 use Rattle.divide.specs.declared.idiv.PostIdiv8.the-variants.{Accepted as postAccepted8, Refused as postRefused8}
@@ -45,7 +45,8 @@ use Rattle.divide.specs.declared.div.DivideOutcome16.the-variants.{Accepted as 
 use Rattle.alu.specs.Views.{c8, c16, co8, co16, coa8, coa16, step8, step16}
 use Rattle.negate.specs.Views.{negate8, negate16}
 use Rattle.multiply.specs.Views.{halves8, halves16, product8, product16}
-use Rattle.divide.specs.Views.{cordOutcome8, cordOutcome16, cordAnswer8, cordAnswer16, post8Answer, post16Answer, outcome8, outcome16, divided8, divided16}
+use Rattle.cord.specs.Views.{cordOutcome8, cordOutcome16, cordAnswer8, cordAnswer16}
+use Rattle.divide.specs.Views.{post8Answer, post16Answer, outcome8, outcome16, divided8, divided16}
 use Rattle.tight.proofs.Law.{Faithful}
 
 pub c8-faithful : Faithful c8

@@ -4,8 +4,9 @@ use Prim.Native.Nat.{_≤_}
 use native.Mathlib.Omega.{arith}
 use borrow.Author.Needs.{needs}
 use Rattle.negate.specs.Views.{negate16}
-use Rattle.divide.specs.Cord as Cord
-use Rattle.divide.specs.Views.{results16, cordOutcome16, cordAnswer16, post16Answer}
+use Rattle.cord.specs.Cord as Cord
+use Rattle.cord.specs.Views.{results16, cordOutcome16, cordAnswer16}
+use Rattle.divide.specs.Views.{post16Answer}
 use Rattle.divide.proofs.AfterPre.{AfterPre, onward, few-before, goes-on, refuses, few-after, finishes}
 use Rattle.divide.proofs.div.signed_div16.Statement.{statement}
 use Rattle.divide.proofs.div.signed_div16.Tie as tie

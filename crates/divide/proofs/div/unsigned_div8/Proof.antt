@@ -4,9 +4,9 @@ use Prim.Native.Nat.{ℕ}
 use native.Mathlib.Nat.{div-add-mod'}
 use native.Mathlib.Omega.{arith}
 use borrow.Author.Needs.{needs}
-use Rattle.divide.specs.Cord as Cord
-use Rattle.divide.specs.Cord.{cord}
-use Rattle.divide.specs.Views.{results8, cordOutcome8, cordAnswer8}
+use Rattle.cord.specs.Cord as Cord
+use Rattle.cord.specs.Cord.{cord}
+use Rattle.cord.specs.Views.{results8, cordOutcome8, cordAnswer8}
 use Rattle.divide.proofs.DivLaws.{few-steps, unsigned-refused, unsigned-accepted}
 use Rattle.divide.proofs.div.unsigned_div8.Statement.{statement}
 use Rattle.divide.proofs.div.unsigned_div8.Tie as tie

@@ -2,7 +2,7 @@
 use native.Mathlib.Omega.{arith}
 use borrow.Author.Needs.{needs}
 use borrow.Author.Tests.{not-true, not-false}
-use Rattle.divide.specs.Views.{results16}
+use Rattle.cord.specs.Views.{results16}
 use Rattle.divide.proofs.IdivLaws.{post-refuses, post-accepts}
 use Rattle.divide.proofs.idiv.post_idiv16.Statement.{statement}
 use Rattle.divide.proofs.idiv.post_idiv16.Tie as tie

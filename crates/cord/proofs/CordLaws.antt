@@ -19,8 +19,8 @@ use Rattle.flags.proofs.WordLaws.{bit-le}
 use Rattle.alu.specs.Result.{ResultCoa}
 use Rattle.alu.specs.Step.{Step, left}
 use Rattle.alu.specs.Sum.{sub, sbb}
-use Rattle.divide.specs.Round.{Round, high, low, byRoad, cordRound}
-use Rattle.divide.specs.Cord.{CordAnswer, accepted, refused, shifted, Road, shiftedOut, noBorrow, borrow as borrows, roadBy, road, tally, byNoBorrow, noBorrows, lastBy, lastCompare, cordSteps, cord}
+use Rattle.cord.specs.Round.{Round, high, low, byRoad, cordRound}
+use Rattle.cord.specs.Cord.{CordAnswer, accepted, refused, shifted, Road, shiftedOut, noBorrow, borrow as borrows, roadBy, road, tally, byNoBorrow, noBorrows, lastBy, lastCompare, cordSteps, cord}
 
 -- ---- a round of the code
 

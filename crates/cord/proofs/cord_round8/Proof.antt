@@ -1,10 +1,10 @@
--- `divide::cord::cord_round8` meets its contract, road by road, at the width 8. Assumes nothing.
+-- `cord::cord_round8` meets its contract, road by road, at the width 8. Assumes nothing.
 use native.Mathlib.Omega.{arith}
 use borrow.Author.Needs.{needs}
-use Rattle.divide.specs.Views.{round8}
-use Rattle.divide.proofs.CordLaws.{by-first, by-second, by-third}
-use Rattle.divide.proofs.cord.cord_round8.Statement.{statement}
-use Rattle.divide.proofs.cord.cord_round8.Tie as tie
+use Rattle.cord.specs.Views.{round8}
+use Rattle.cord.proofs.CordLaws.{by-first, by-second, by-third}
+use Rattle.cord.proofs.cord_round8.Statement.{statement}
+use Rattle.cord.proofs.cord_round8.Tie as tie
 
 returns : tie.Need-returns
 returns c =

@@ -8,8 +8,8 @@ use native.Mathlib.Omega.{arith}
 use lib.Count.{ones, ones-cat}
 use lib.Dec.{leb, lit<}
 use borrow.Author.Tests.{leb-true, leb-false, lt-leb}
-use Rattle.divide.specs.Cord.{shifted, Road, shiftedOut, noBorrow, borrow as borrows, roadBy, road, tally, byNoBorrow, noBorrows, cordSteps}
-use Rattle.divide.proofs.CordLaws.{fits-once, fits-not}
+use Rattle.cord.specs.Cord.{shifted, Road, shiftedOut, noBorrow, borrow as borrows, roadBy, road, tally, byNoBorrow, noBorrows, cordSteps}
+use Rattle.cord.proofs.CordLaws.{fits-once, fits-not}
 
 -- what a round compares is less than twice the divisor
 shifted-lt : (b p : ℕ) → 0 < b → shifted b p < b * 2

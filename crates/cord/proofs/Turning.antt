@@ -5,9 +5,9 @@ use Prim.Native.Nat.{ℕ, suc, _+_, _*_, _%_, _^_, _≤_, _<_}
 use native.Mathlib.Omega.{arith}
 use lib.Dec.{ltb}
 use Rattle.flags.specs.Numbers.{top}
-use Rattle.divide.specs.Round.{Round, cordRound}
-use Rattle.divide.specs.Cord.{accepted, cord}
-use Rattle.divide.proofs.CordLaws.{Walked, jumped, begin, next, ready, cord-accepts}
+use Rattle.cord.specs.Round.{Round, cordRound}
+use Rattle.cord.specs.Cord.{accepted, cord}
+use Rattle.cord.proofs.CordLaws.{Walked, jumped, begin, next, ready, cord-accepts}
 
 -- so many rounds are made and so many left, of operands that passed the first compare
 pub record Turning (n a b c steps : ℕ) (at : Round) (left : ℕ) : Type 0 where

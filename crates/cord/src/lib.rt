@@ -1,11 +1,11 @@
-// CORD, the microcode's divide: the dividend leaves its register by the left, a bit a round, as the
-// quotient comes in from the right. The chip gathers the quotient's complement and turns it at the
-// end; here the quotient itself is gathered.
+// CORD, the microcode's divide of magnitudes, after cpu_808x/muldiv.rs of MartyPC: the dividend leaves
+// its register by the left, a bit a round, as the quotient comes in from the right. The chip gathers
+// the quotient's complement and turns it at the end; here the quotient itself is gathered.
 ghost use mathlib.Core.Path.{_≡_};
 ghost use Prim.Native.Nat.{_+_, _*_, _<_};
-ghost use Rattle.divide.specs.Round.{cordRound};
-ghost use Rattle.divide.specs.Cord.{cord};
-ghost use Rattle.divide.specs.Views.{round8, round16, cordAnswer8, cordAnswer16};
+ghost use Rattle.cord.specs.Round.{cordRound};
+ghost use Rattle.cord.specs.Cord.{cord};
+ghost use Rattle.cord.specs.Views.{round8, round16, cordAnswer8, cordAnswer16};
 use alu::step;
 use alu::subtraction;
 use flags::width::Width8;

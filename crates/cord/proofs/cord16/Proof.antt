@@ -1,14 +1,14 @@
--- `divide::cord::cord16` meets its contract: the laws of the loop at the width 16. Assumes nothing.
+-- `cord::cord16` meets its contract: the laws of the loop at the width 16. Assumes nothing.
 use mathlib.Core.Path.{_≡_, ap}
 use Prim.Native.Nat.{ℕ, _+_, _*_, _%_, _<_}
 use native.Mathlib.Omega.{arith}
 use lib.Bits.{bitAnd, and-mask}
 use Rattle.flags.proofs.Masks.{mask-top-clear}
-use Rattle.divide.specs.Views.{round16}
-use Rattle.divide.proofs.CordLaws.{refuses}
-use Rattle.divide.proofs.Turning.{Turning, starts, may-turn, few-turned, turns, ends}
-use Rattle.divide.proofs.cord.cord16.Statement.{statement}
-use Rattle.divide.proofs.cord.cord16.Tie as tie
+use Rattle.cord.specs.Views.{round16}
+use Rattle.cord.proofs.CordLaws.{refuses}
+use Rattle.cord.proofs.Turning.{Turning, starts, may-turn, few-turned, turns, ends}
+use Rattle.cord.proofs.cord16.Statement.{statement}
+use Rattle.cord.proofs.cord16.Tie as tie
 
 abbrev Inv-loop : tie.InvT-loop
 Inv-loop tmpa tmpb tmpc steps at₀ internal-counter₀ at internal-counter = Turning 16 tmpa tmpb tmpc steps (round16 at) internal-counter

@@ -1,14 +1,14 @@
--- `divide::cord::cord8` meets its contract: the laws of the loop at the width 8. Assumes nothing.
+-- `cord::cord8` meets its contract: the laws of the loop at the width 8. Assumes nothing.
 use mathlib.Core.Path.{_≡_, ap}
 use Prim.Native.Nat.{ℕ, _+_, _*_, _%_, _<_}
 use native.Mathlib.Omega.{arith}
 use lib.Bits.{bitAnd, and-mask}
 use Rattle.flags.proofs.Masks.{mask-top-clear}
-use Rattle.divide.specs.Views.{round8}
-use Rattle.divide.proofs.CordLaws.{refuses}
-use Rattle.divide.proofs.Turning.{Turning, starts, may-turn, few-turned, turns, ends}
-use Rattle.divide.proofs.cord.cord8.Statement.{statement}
-use Rattle.divide.proofs.cord.cord8.Tie as tie
+use Rattle.cord.specs.Views.{round8}
+use Rattle.cord.proofs.CordLaws.{refuses}
+use Rattle.cord.proofs.Turning.{Turning, starts, may-turn, few-turned, turns, ends}
+use Rattle.cord.proofs.cord8.Statement.{statement}
+use Rattle.cord.proofs.cord8.Tie as tie
 
 abbrev Inv-loop : tie.InvT-loop
 Inv-loop tmpa tmpb tmpc steps at₀ internal-counter₀ at internal-counter = Turning 8 tmpa tmpb tmpc steps (round8 at) internal-counter

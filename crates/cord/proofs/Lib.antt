@@ -1,0 +1,3 @@
+pub mod CordLaws
+pub mod Turning
+pub mod RoadLaws

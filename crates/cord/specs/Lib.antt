@@ -1,0 +1,3 @@
+pub mod Round
+pub mod Cord
+pub mod Views
