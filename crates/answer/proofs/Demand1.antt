@@ -4,14 +4,12 @@ use mathlib.Core.Path.{_≡_, refl, sym, ap, subst, _∙_}
 use mathlib.Core.Bool.{Bool, true, false, not, cond, _&&_, _||_, false≢true}
 use mathlib.Core.Logic.{_↔_}
 use Prim.Native.Nat.{ℕ, _+_, _^_, _<_}
-use native.Mathlib.Omega.{arith}
 use lib.Bits.{bitAnd}
 use lib.Dec.{leb, ltb, eqb}
-use borrow.Author.Tests.{leb-false, ltb-false, eqb-true, le-ltb, le-leb, eq-eqb, not-false}
+use borrow.Author.Tests.{leb-false, ltb-false, eqb-true, not-false}
 use Rattle.flags.specs.Numbers.{isSet}
-use Rattle.flags.specs.Word.{wordOf, flagsOf, isFlags}
+use Rattle.flags.specs.Word.{wordOf, flagsOf}
 use Rattle.flags.specs.declared.word.Flags.{Flags}
-use Rattle.flags.proofs.WordLaws.{is-masked}
 use Rattle.divide.specs.Divide.{applies, refusedFlags, refusedSteps, divide}
 use Rattle.divide.specs.declared.div.Refusal.{Refusal}
 use Rattle.divide.specs.declared.div.Refusal.the-variants.{ZeroDivisor, TooWide, SignRange}
@@ -29,11 +27,8 @@ use Rattle.answer.specs.Table.{wrongMode, widthBy, tooLarge, refusedFor}
 use Rattle.answer.specs.Refused.{RefusedDivide, refusal}
 use Rattle.answer.specs.declared.answer.Answer.{Answer}
 use Rattle.answer.proofs.Rows.{both}
+use Rattle.answer.proofs.DivideRows.{some-width, flags-alone, divide-admitted}
 use Rattle.answer.proofs.Table.{statuses}
-
--- a word with no bit outside 08D5 is a flags word
-flags-alone : (w : ℕ) → bitAnd w 0x08D5 ≡ w → isFlags w ≡ true
-flags-alone w h = is-masked w ∙ eq-eqb (bitAnd w 0x08D5) w h
 
 -- ---- a refused divide is answered its refusal
 
@@ -41,33 +36,11 @@ refused-is : (why : Refusal) (n : ℕ) (s rep : Bool) (d b : ℕ) (f : Flags) �
     → ofDivided (divide n s rep d b f) ≡ record { status = refusalStatus why; flags = wordOf (refusedFlags n s d b f); steps = refusedSteps n s d b; r = 0; s = 0 }
 refused-is why n s rep d b f hn e = ap ofDivided (refused-whole n s d b hn f rep why e)
 
-pub some-width : (mode : ℕ) → 0 < widthBy mode
-some-width mode = by (isSet 0 mode)
-  where
-    by : (k : Bool) → 0 < cond k 16 8
-    by true = omega arith
-    by false = omega arith
-
 module _ (why : Refusal) (mode flags x y : ℕ) (refused : RefusedDivide why (raw 0x11 mode flags x y)) where
-  width : bits (widthOf mode) ≡ widthBy mode
-  width = by (isSet 0 mode) refl
-    where
-      by : (k : Bool) → isSet 0 mode ≡ k → bits (widthOf mode) ≡ widthBy mode
-      by true e = rw e
-      by false e = rw e
-
-  admitted : inLimits (Divide (modeOf mode)) flags x y ≡ true
-  admitted = by (isSet 0 mode) refl (refused .dividend) (refused .divisor)
-    where
-      by : (k : Bool) → isSet 0 mode ≡ k → x < 2 ^ (cond k 16 8 + cond k 16 8) → y < 2 ^ cond k 16 8 → inLimits (Divide (modeOf mode)) flags x y ≡ true
-      by true e hx hy = rw (e, le-leb x 0xFFFF_FFFF (omega arith), le-leb y 0xFFFF (omega arith)) (flags-alone flags (refused .flags))
-      by false e hx hy = rw (e, le-leb x 0xFFFF (omega arith), le-leb y 0xFF (omega arith)) (flags-alone flags (refused .flags))
-
   answered : asked (raw 0x11 mode flags x y) ≡ refusal why (raw 0x11 mode flags x y)
-  unfolding asked judged operationOf listed ops charted
   answered =
-      rw (le-ltb 0x07 mode (refused .mode), admitted, width)
-      (refused-is why (widthBy mode) (isSet 1 mode) (isSet 2 mode) x y (flagsOf flags) (some-width mode) (refused .reason))
+      divide-admitted mode flags x y (refused .mode) (refused .dividend) (refused .divisor) (refused .flags)
+      ∙ refused-is why (widthBy mode) (isSet 1 mode) (isSet 2 mode) x y (flagsOf flags) (some-width mode) (refused .reason)
 
 -- ---- and those statuses are given to nothing else
 

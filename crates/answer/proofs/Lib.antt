@@ -4,4 +4,5 @@ pub mod Words
 pub mod Rows
 pub mod Agreement
 pub mod Table
+pub mod DivideRows
 pub mod Demand1

@@ -1,10 +1,9 @@
 -- CORD over the width n: its rounds give the quotient and the remainder, and the chart's count of ones and last compare.
 -- Assumes nothing.
-use mathlib.Core.Path.{_≡_, refl, sym, ap, ap₂, subst, _∙_}
-use mathlib.Core.Bool.{Bool, true, false, cond}
+use mathlib.Core.Path.{_≡_, refl, sym, ap, ap₂, _∙_}
+use mathlib.Core.Bool.{Bool, true, false}
 use Prim.Native.Nat.{ℕ, zero, suc, _+_, _-_, _*_, _/_, _%_, _^_, _≤_, _<_}
 use native.Mathlib.Nat.{pow-suc, div-add-mod', mod-lt, mod-eq-of-lt, div-eq-of-lt, div-lt-iff-lt-mul, add-zero}
-use native.Mathlib.Numerals.{add-one}
 use native.Mathlib.Omega.{arith}
 use lib.Arith.{digits-lt, digits-div, digits-mod, lt-one}
 use lib.Bits.{bitOr}
@@ -20,7 +19,7 @@ use Rattle.alu.specs.Result.{ResultCoa}
 use Rattle.alu.specs.Step.{Step, left}
 use Rattle.alu.specs.Sum.{sub, sbb}
 use Rattle.cord.specs.Round.{Round, high, low, byRoad, cordRound}
-use Rattle.cord.specs.Cord.{CordAnswer, accepted, refused, shifted, Road, shiftedOut, noBorrow, borrow as borrows, roadBy, road, tally, byNoBorrow, noBorrows, lastBy, lastCompare, cordSteps, cord}
+use Rattle.cord.specs.Cord.{CordAnswer, accepted, refused, shifted, Road, shiftedOut, noBorrow, borrow as borrows, roadBy, road, tally, byShiftedOut, shiftedOuts, byNoBorrow, noBorrows, bothRoads, noRoads, lastBy, lastCompare, cordSteps, cord}
 
 -- ---- a round of the code
 
@@ -35,11 +34,11 @@ left-digit n x hn hx = by (topSet n x) (top-is n x)
         ap (λ (y : ℕ). y / 2 ^ n) e ∙ digits-div 1 (omega arith)
     by false h = let m = top-twice n hn in div-eq-of-lt (omega arith)
 
-abbrev made : ℕ → ℕ → ℕ → ℕ → Round
-made a c l t = record { tmpa = a; tmpc = c; compared = l; steps = t }
+abbrev made : ℕ → ℕ → ℕ → ℕ → ℕ → Round
+made a c l u v = record { tmpa = a; tmpc = c; compared = l; shiftedOut = u; noBorrow = v }
 
-same : {a a′ c c′ l l′ : ℕ} (t : ℕ) → a ≡ a′ → c ≡ c′ → l ≡ l′ → made a c l t ≡ made a′ c′ l′ t
-same t p q r = cc
+same : {a a′ c c′ l l′ : ℕ} (u v : ℕ) → a ≡ a′ → c ≡ c′ → l ≡ l′ → made a c l u v ≡ made a′ c′ l′ u v
+same u v p q r = cc
 
 -- the code's two shifts are the pair's
 module _ (n b : ℕ) (s : Round) {lower upper : Step} (hn : 0 < n) (ha : s .tmpa < b) (hb : b < 2 ^ n) (hc : s .tmpc < 2 ^ n)
@@ -73,10 +72,10 @@ module _ (n b : ℕ) (s : Round) {lower upper : Step} (hn : 0 < n) (ha : s .tmpa
   out-is = ap (λ (t : Step). t .carry) eu
 
   pub by-first : upper .carry ≡ true → {rest : ResultCoa} → rest ≡ sub n (upper .value) b
-      → made (rest .result) (bitOr (lower .value) 1) (s .compared) (s .steps + 7) ≡ cordRound n b s
+      → made (rest .result) (bitOr (lower .value) 1) (s .compared) (s .shiftedOut + 1) (s .noBorrow) ≡ cordRound n b s
   unfolding cordRound sbb
   by-first t {rest} e =
-      rw (le-leb (2 ^ n) (high n s) out) (same (s .steps + 7) difference one-in refl)
+      rw (le-leb (2 ^ n) (high n s) out) (same (s .shiftedOut + 1) (s .noBorrow) difference one-in refl)
     where
       at-top : top n ≤ s .tmpa
       at-top = leb-true (top n) (s .tmpa) (sym out-is ∙ t)
@@ -109,27 +108,23 @@ module _ (n b : ℕ) (s : Round) {lower upper : Step} (hn : 0 < n) (ha : s .tmpa
     whole-value : upper .value ≡ high n s
     whole-value = value-is ∙ mod-eq-of-lt inside
 
-    pub by-second : b ≤ upper .value → made (upper .value - b) (bitOr (lower .value) 1) (upper .value) (s .steps + 8) ≡ cordRound n b s
+    pub by-second : b ≤ upper .value → made (upper .value - b) (bitOr (lower .value) 1) (upper .value) (s .shiftedOut) (s .noBorrow + 1) ≡ cordRound n b s
     unfolding cordRound
     by-second h =
         let v = whole-value in
-        rw (lt-leb (2 ^ n) (high n s) inside, le-leb b (high n s) (omega arith)) (same (s .steps + 8) (omega arith) one-in v)
+        rw (lt-leb (2 ^ n) (high n s) inside, le-leb b (high n s) (omega arith)) (same (s .shiftedOut) (s .noBorrow + 1) (omega arith) one-in v)
 
-    pub by-third : upper .value < b → made (upper .value) (lower .value) (upper .value) (s .steps + 7) ≡ cordRound n b s
+    pub by-third : upper .value < b → made (upper .value) (lower .value) (upper .value) (s .shiftedOut) (s .noBorrow) ≡ cordRound n b s
     unfolding cordRound
     by-third h =
         let v = whole-value in
-        rw (lt-leb (2 ^ n) (high n s) inside, lt-leb b (high n s) (omega arith)) (same (s .steps + 7) v kept v)
+        rw (lt-leb (2 ^ n) (high n s) inside, lt-leb b (high n s) (omega arith)) (same (s .shiftedOut) (s .noBorrow) v kept v)
 
 -- ---- the walk
 
--- the step of the jump back
-abbrev pub jumped : Round → Round
-jumped s = record { tmpa = s .tmpa; tmpc = s .tmpc; compared = s .compared; steps = s .steps + 1 }
-
 -- after k rounds j bits of the dividend, l, are still to be taken in, and p is what has been: the upper half is its remainder, and the
 -- lower half holds l above its quotient
-pub record Walked (n b d start k : ℕ) (s : Round) : Type 0 where
+pub record Walked (n b d k : ℕ) (s : Round) : Type 0 where
   pub j : ℕ
   pub p : ℕ
   pub l : ℕ
@@ -140,11 +135,12 @@ pub record Walked (n b d start k : ℕ) (s : Round) : Type 0 where
   pub lower : s .tmpc ≡ l * 2 ^ k + p / b
   pub few : p / b < 2 ^ k
   pub last : s .compared ≡ lastCompare n b k p
-  pub steps : s .steps ≡ start + 8 * k + noBorrows n b k p
+  pub outs : s .shiftedOut ≡ shiftedOuts n b k p
+  pub plains : s .noBorrow ≡ noBorrows n b k p
 
-pub begin : (n b a c start : ℕ) → a < b → c < 2 ^ n → Walked n b (a * 2 ^ n + c) start 0 (made a c a start)
+pub begin : (n b a c : ℕ) → a < b → c < 2 ^ n → Walked n b (a * 2 ^ n + c) 0 (made a c a 0 0)
 unfolding lastCompare tally
-begin n b a c start ha hc =
+begin n b a c ha hc =
     let none : a / b ≡ 0 = div-eq-of-lt ha in
     record {
       j = n;
@@ -157,7 +153,8 @@ begin n b a c start ha hc =
       lower = omega arith;
       few = omega arith;
       last = refl;
-      steps = omega arith;
+      outs = refl;
+      plains = refl;
     }
 
 -- the lower half, of a bit t, j bits l and k bits q, shifted left by one
@@ -184,10 +181,10 @@ fits-not b p t h eh hb =
     (ap (λ (x : ℕ). x / b) d ∙ digits-div (p / b * 2) hb, ap (λ (x : ℕ). x % b) d ∙ digits-mod (p / b * 2) hb)
 
 -- one round more. t is the dividend's next bit and l its later ones, p what is taken in so far
-module _ (n b d start k j t l p : ℕ) (s : Round) (hb : b < 2 ^ n) (pos : 0 < b) (count : suc j + k ≡ n) (ht : t < 2) (hl : l < 2 ^ j)
+module _ (n b d k j t l p : ℕ) (s : Round) (hb : b < 2 ^ n) (pos : 0 < b) (count : suc j + k ≡ n) (ht : t < 2) (hl : l < 2 ^ j)
     (whole : p * (2 ^ j * 2) + (t * 2 ^ j + l) ≡ d)
     (up : s .tmpa ≡ p % b) (lo : s .tmpc ≡ (t * 2 ^ j + l) * 2 ^ k + p / b) (few : p / b < 2 ^ k)
-    (lc : s .compared ≡ lastCompare n b k p) (st : s .steps ≡ start + 8 * k + noBorrows n b k p) where
+    (lc : s .compared ≡ lastCompare n b k p) (so : s .shiftedOut ≡ shiftedOuts n b k p) (nb : s .noBorrow ≡ noBorrows n b k p) where
   next-high : high n s ≡ p % b * 2 + t
   next-high =
       ap₂ (λ (x y : ℕ). x * 2 + y) up
@@ -210,7 +207,7 @@ module _ (n b d start k j t l p : ℕ) (s : Round) (hb : b < 2 ^ n) (pos : 0 < b
   on-road = ap (λ (h : ℕ). roadBy (leb (2 ^ n) h) (leb b h)) seen
 
   abbrev Next : Bool → Bool → Type 0
-  Next x y = Walked n b d start (suc k) (jumped (byRoad x y b (high n s) (low n s) s))
+  Next x y = Walked n b d (suc k) (byRoad x y b (high n s) (low n s) s)
 
   -- what the chart's recursions gain on a road: the last compare, and a tally, whatever it counts
   module _ {r : Road} (e : road n b (p * 2 + t) ≡ r) where
@@ -230,9 +227,10 @@ module _ (n b d start k j t l p : ℕ) (s : Round) (hb : b < 2 ^ n) (pos : 0 < b
       → byRoad x y b (high n s) (low n s) s .tmpa ≡ high n s - b
       → byRoad x y b (high n s) (low n s) s .tmpc ≡ low n s + 1
       → byRoad x y b (high n s) (low n s) s .compared ≡ lastBy (roadBy x y) (s .compared) (high n s)
-      → byRoad x y b (high n s) (low n s) s .steps ≡ s .steps + 7 + byNoBorrow (roadBy x y)
+      → byRoad x y b (high n s) (low n s) s .shiftedOut ≡ s .shiftedOut + byShiftedOut (roadBy x y)
+      → byRoad x y b (high n s) (low n s) s .noBorrow ≡ s .noBorrow + byNoBorrow (roadBy x y)
       → Next x y
-  with-one x y h e ra rc rl rs =
+  with-one x y h e ra rc rl ro rn =
       let q = fits-once b p t (high n s) next-high ht h (mod-lt p pos) in
       let f = next-low in
       record {
@@ -246,12 +244,13 @@ module _ (n b d start k j t l p : ℕ) (s : Round) (hb : b < 2 ^ n) (pos : 0 < b
         lower = rc ∙ omega arith;
         few = rw pow-suc (omega arith);
         last = rl ∙ ap (λ (z : ℕ). lastBy (roadBy x y) z (high n s)) lc ∙ sym (compare-gains e);
-        steps = omega (arith, tally-gains e byNoBorrow);
+        outs = omega (arith, tally-gains e byShiftedOut);
+        plains = omega (arith, tally-gains e byNoBorrow);
       }
 
   pub stepped : (x y : Bool) → leb (2 ^ n) (high n s) ≡ x → leb b (high n s) ≡ y → Next x y
-  stepped true y ex ey = with-one true y (omega (arith, leb-true (2 ^ n) (high n s) ex)) (on-road ∙ ap₂ roadBy ex ey) refl refl refl (omega arith)
-  stepped false true ex ey = with-one false true (leb-true b (high n s) ey) (on-road ∙ ap₂ roadBy ex ey) refl refl refl (omega arith)
+  stepped true y ex ey = with-one true y (omega (arith, leb-true (2 ^ n) (high n s) ex)) (on-road ∙ ap₂ roadBy ex ey) refl refl refl (omega arith) (omega arith)
+  stepped false true ex ey = with-one false true (leb-true b (high n s) ey) (on-road ∙ ap₂ roadBy ex ey) refl refl refl (omega arith) (omega arith)
   stepped false false ex ey =
       let q = fits-not b p t (high n s) next-high (leb-false b (high n s) ey) in
       let f = next-low in
@@ -267,58 +266,73 @@ module _ (n b d start k j t l p : ℕ) (s : Round) (hb : b < 2 ^ n) (pos : 0 < b
         lower = omega arith;
         few = rw pow-suc (omega arith);
         last = sym (compare-gains e);
-        steps = omega (arith, tally-gains e byNoBorrow);
+        outs = omega (arith, tally-gains e byShiftedOut);
+        plains = omega (arith, tally-gains e byNoBorrow);
       }
 
-pub next : (n b d start k : ℕ) (s r : Round) → b < 2 ^ n → 0 < b → k < n → Walked n b d start k s → r ≡ cordRound n b s → Walked n b d start (suc k) (jumped r)
+pub next : (n b d k : ℕ) (s r : Round) → b < 2 ^ n → 0 < b → k < n → Walked n b d k s → r ≡ cordRound n b s → Walked n b d (suc k) r
 unfolding cordRound
-next n b d start k s r hb pos hk w e = rw e (go (w .j) (w .count) (w .rest) (w .whole))
+next n b d k s r hb pos hk w e = rw e (go (w .j) (w .count) (w .rest) (w .whole))
   where
     go : (j : ℕ) → j + k ≡ n → w .l < 2 ^ j → w .p * 2 ^ j + w .l ≡ d
-        → Walked n b d start (suc k) (jumped (byRoad (leb (2 ^ n) (high n s)) (leb b (high n s)) b (high n s) (low n s) s))
+        → Walked n b d (suc k) (byRoad (leb (2 ^ n) (high n s)) (leb b (high n s)) b (high n s) (low n s) s)
     go zero c h i = absurd (omega arith)
     go (suc j) c h i =
         let split = div-add-mod' (w .l) (2 ^ j) in
         let twice : w .l < 2 ^ j * 2 = rw pow-suc at h in
-        stepped n b d start k j (w .l / 2 ^ j) (w .l % 2 ^ j) (w .p) s hb pos c
+        stepped n b d k j (w .l / 2 ^ j) (w .l % 2 ^ j) (w .p) s hb pos c
         (div-lt-iff-lt-mul (pow-pos j) .1 (omega arith))
         (mod-lt (w .l) (pow-pos j))
         (rw split (rw pow-suc at i))
         (w .upper)
         (w .lower ∙ ap (λ (x : ℕ). x * 2 ^ k + w .p / b) (sym split))
-        (w .few) (w .last) (w .steps) _ _ refl refl
+        (w .few) (w .last) (w .outs) (w .plains) _ _ refl refl
 
 -- ---- the answer
 
-pub refuses : (n b a c steps : ℕ) → c < 2 ^ n → b ≤ a → record { outcome = refused; carry = false; compared = a; steps = steps + 4 } ≡ cord n b (a * 2 ^ n + c) steps
+pub refuses : (n b a c steps : ℕ) → c < 2 ^ n → b ≤ a → record { outcome = refused; carry = false; compared = a; roads = noRoads; steps = steps + 4 } ≡ cord n b (a * 2 ^ n + c) steps
 unfolding cord
 refuses n b a c steps hc h = rw (digits-div a hc, le-leb b a h)
 
-no-borrow-most : (r : Road) → byNoBorrow r ≤ 1
-no-borrow-most shiftedOut = omega arith
-no-borrow-most noBorrow = omega arith
-no-borrow-most borrows = omega arith
+-- a round makes at most one 1, and by one road
+one-road : (r : Road) → byShiftedOut r + byNoBorrow r ≤ 1
+one-road shiftedOut = omega arith
+one-road noBorrow = omega arith
+one-road borrows = omega arith
 
-pub most-ones : (n b k p : ℕ) → noBorrows n b k p ≤ k
+-- and so the ones are at most as many as the rounds
+pub most-ones : (n b k p : ℕ) → shiftedOuts n b k p + noBorrows n b k p ≤ k
 unfolding tally
 most-ones n b zero p = omega arith
-most-ones n b (suc k) p = omega (arith, most-ones n b k (p / 2), no-borrow-most (road n b p))
+most-ones n b (suc k) p = omega (arith, most-ones n b k (p / 2), one-road (road n b p))
 
 -- what a state of the walk offers the next round
-pub ready : (n b d start k : ℕ) (s : Round) → 0 < b → n ≤ 16 → k ≤ n → Walked n b d start k s → (s .tmpa < b) × (s .steps ≤ start + 144)
-ready n b d start k s pos hn hk w = (omega (arith, w .upper, mod-lt (w .p) pos), omega (arith, w .steps, most-ones n b k (w .p)))
+pub ready : (n b d k : ℕ) (s : Round) → 0 < b → Walked n b d k s → (s .tmpa < b) × (s .shiftedOut + s .noBorrow ≤ k)
+ready n b d k s pos w = (omega (arith, w .upper, mod-lt (w .p) pos), omega (arith, w .outs, w .plains, most-ones n b k (w .p)))
+
+-- the answer that the code makes of a state, with C and the steps
+abbrev pub answerOf : Round → Bool → ℕ → CordAnswer
+answerOf s carry t =
+    record {
+      outcome = accepted (record { quotient = s .tmpc; remainder = s .tmpa });
+      carry = carry;
+      compared = s .compared;
+      roads = bothRoads (s .shiftedOut) (s .noBorrow);
+      steps = t;
+    }
 
 -- the walk at its end: everything is taken in
-module _ (n b a c steps : ℕ) (ha : a < b) (hb : b < 2 ^ n) (hc : c < 2 ^ n) (hn : 0 < n) where
+module _ (n b a c steps : ℕ) (ha : a < b) (hc : c < 2 ^ n) where
   abbrev d : ℕ
   d = a * 2 ^ n + c
 
-  end : (s : Round) → Walked n b d (steps + 3) n s
-      → (s .tmpc ≡ d / b) × (s .tmpa ≡ d % b) × (s .compared ≡ lastCompare n b n d) × (s .steps ≡ steps + 3 + 8 * n + noBorrows n b n d)
+  abbrev AtEnd : Round → Type 0
+  AtEnd s = (s .tmpc ≡ d / b) × (s .tmpa ≡ d % b) × (s .compared ≡ lastCompare n b n d) × (s .shiftedOut ≡ shiftedOuts n b n d) × (s .noBorrow ≡ noBorrows n b n d)
+
+  end : (s : Round) → Walked n b d n s → AtEnd s
   end s w = go (w .j) (w .count) (w .rest) (w .whole)
     where
-      go : (j : ℕ) → j + n ≡ n → w .l < 2 ^ j → w .p * 2 ^ j + w .l ≡ d
-          → (s .tmpc ≡ d / b) × (s .tmpa ≡ d % b) × (s .compared ≡ lastCompare n b n d) × (s .steps ≡ steps + 3 + 8 * n + noBorrows n b n d)
+      go : (j : ℕ) → j + n ≡ n → w .l < 2 ^ j → w .p * 2 ^ j + w .l ≡ d → AtEnd s
       go (suc j) e h i = absurd (omega arith)
       go zero e h i =
           let z : w .l ≡ 0 = lt-one h in
@@ -326,23 +340,22 @@ module _ (n b a c steps : ℕ) (ha : a < b) (hb : b < 2 ^ n) (hc : c < 2 ^ n) (h
             w .lower ∙ ap₂ (λ (x y : ℕ). x * 2 ^ n + y / b) z all ∙ omega arith,
             w .upper ∙ ap (λ (x : ℕ). x % b) all,
             w .last ∙ ap (lastCompare n b n) all,
-            w .steps ∙ ap (λ (x : ℕ). steps + 3 + 8 * n + noBorrows n b n x) all,
+            w .outs ∙ ap (shiftedOuts n b n) all,
+            w .plains ∙ ap (noBorrows n b n) all,
           )
 
-  pub cord-accepts : (k : ℕ) (s r : Round) → Walked n b d (steps + 3) k s → r ≡ cordRound n b s → k + 1 ≡ n → {carry : Bool} {t : ℕ}
-      → carry ≡ ltb (r .tmpc) (top n) → t ≡ r .steps + 4 + 2 * (r .tmpc % 2)
-      → record { outcome = accepted (record { quotient = r .tmpc; remainder = r .tmpa }); carry = carry; compared = r .compared; steps = t } ≡ cord n b d steps
+  pub cord-accepts : (s : Round) → Walked n b d n s → {carry : Bool} {t : ℕ} → carry ≡ ltb (s .tmpc) (top n)
+      → t ≡ steps + 6 + 8 * n + s .noBorrow + 2 * (s .tmpc % 2) → answerOf s carry t ≡ cord n b d steps
   unfolding cord
-  cord-accepts k s r w e last {carry} {t} ec et =
-      let done : Walked n b d (steps + 3) n (jumped r) = subst (λ (m : ℕ). Walked n b d (steps + 3) m (jumped r)) (sym (add-one k) ∙ last)
-      (next n b d (steps + 3) k s r hb (omega arith) (omega arith) w e) in
-      let f = end (jumped r) done in
-      let quotient : r .tmpc ≡ d / b = f .0 in
-      let whole : t ≡ steps + cordSteps n b d = et ∙ rw quotient (omega (arith, f .3)) in
+  cord-accepts s w {carry} {t} ec et =
+      let f = end s w in
+      let quotient : s .tmpc ≡ d / b = f .0 in
+      let whole : t ≡ steps + cordSteps n b d = et ∙ rw quotient (omega (arith, f .4)) in
       rw (digits-div a hc, lt-leb b a ha)
       (λ i. record {
         outcome = accepted (record { quotient = quotient i; remainder = f .1 i });
         carry = (ec ∙ ap (λ (x : ℕ). ltb x (top n)) quotient) i;
         compared = f .2 i;
+        roads = bothRoads (f .3 i) (f .4 i);
         steps = whole i;
       })

@@ -1,14 +1,15 @@
 -- The roads of CORD's rounds over the width n: which are never taken, how many ones come by them, and how the steps add up road by road.
 -- Assumes nothing.
 use mathlib.Core.Path.{_≡_, refl, sym, ap, _∙_}
-use mathlib.Core.Bool.{Bool, true, false}
+use mathlib.Core.Bool.{Bool, true, false, cond, true≢false}
 use Prim.Native.Nat.{ℕ, zero, suc, _+_, _-_, _*_, _/_, _%_, _^_, _≤_, _<_}
 use native.Mathlib.Nat.{add-zero, pow-suc, div-add-mod', div-eq-of-lt, mod-lt, div-div-eq-div-mul, mul-comm}
 use native.Mathlib.Omega.{arith}
 use lib.Count.{ones, ones-cat}
-use lib.Dec.{leb, lit<}
+use lib.Dec.{leb, eqb, lit<}
 use borrow.Author.Tests.{leb-true, leb-false, lt-leb}
-use Rattle.cord.specs.Cord.{shifted, Road, shiftedOut, noBorrow, borrow as borrows, roadBy, road, tally, byNoBorrow, noBorrows, cordSteps}
+use Rattle.cord.specs.Cord.{Results, CordOutcome, accepted, refused, cord, shifted, Road, shiftedOut, noBorrow, borrow as borrows, roadBy, road, tally, byShiftedOut, shiftedOuts, byNoBorrow, noBorrows, cordSteps}
+use Rattle.cord.specs.ByRoad.{roadSteps, walkSteps, stepsByRoad}
 use Rattle.cord.proofs.CordLaws.{fits-once, fits-not}
 
 -- what a round compares is less than twice the divisor
@@ -29,39 +30,50 @@ ones-even : (q : ℕ) → ones (q * 2) ≡ ones q
 unfolding ones
 ones-even q = let z : q * 2 ≡ q * 2 ^ 1 + 0 = omega arith in ap ones z ∙ ones-cat 1 q 0 (lit< tt) ∙ omega arith
 
-one-more : (n b k p : ℕ) → 0 < b → noBorrows n b k (p / 2) ≡ ones (p / 2 / b) → noBorrows n b k (p / 2) + byNoBorrow (roadBy false (leb b (shifted b p))) ≡ ones (p / b)
-one-more n b k p pos before = by (leb b (shifted b p)) refl
+-- with the bit that a round takes in, the quotient has one more exactly if the round took one of the two roads that make one
+one-more : (n b p : ℕ) → 0 < b → b ≤ 2 ^ n → ones (p / 2 / b) + (byShiftedOut (road n b p) + byNoBorrow (road n b p)) ≡ ones (p / b)
+unfolding road
+one-more n b p pos hb = by (leb (2 ^ n) (shifted b p)) (leb b (shifted b p)) refl refl
   where
     whole : p / 2 * 2 + p % 2 ≡ p
     whole = div-add-mod' p 2
 
-    by : (x : Bool) → leb b (shifted b p) ≡ x → noBorrows n b k (p / 2) + byNoBorrow (roadBy false x) ≡ ones (p / b)
-    by true e =
-        let q = fits-once b (p / 2) (p % 2) (shifted b p) refl (mod-lt p (lit< tt)) (leb-true b (shifted b p) e) (mod-lt (p / 2) pos) .0 in
-        ap (λ (x : ℕ). x + 1) before ∙ sym (ones-odd (p / 2 / b)) ∙ ap ones (sym q ∙ ap (λ (x : ℕ). x / b) whole)
-    by false e =
-        let q = fits-not b (p / 2) (p % 2) (shifted b p) refl (leb-false b (shifted b p) e) .0 in
-        add-zero (noBorrows n b k (p / 2)) ∙ before ∙ sym (ones-even (p / 2 / b)) ∙ ap ones (sym q ∙ ap (λ (x : ℕ). x / b) whole)
+    odd : b ≤ shifted b p → ones (p / 2 / b) + 1 ≡ ones (p / b)
+    odd h =
+        let q = fits-once b (p / 2) (p % 2) (shifted b p) refl (mod-lt p (lit< tt)) h (mod-lt (p / 2) pos) .0 in
+        sym (ones-odd (p / 2 / b)) ∙ ap ones (sym q ∙ ap (λ (x : ℕ). x / b) whole)
 
--- so every one of the quotient comes by no borrow
-pub plain-ones : (n b k p : ℕ) → 0 < b → b * 2 ≤ 2 ^ n → p / 2 ^ k < b → noBorrows n b k p ≡ ones (p / b)
+    by : (x y : Bool) → leb (2 ^ n) (shifted b p) ≡ x → leb b (shifted b p) ≡ y → ones (p / 2 / b) + (byShiftedOut (roadBy x y) + byNoBorrow (roadBy x y)) ≡ ones (p / b)
+    by true y ex ey = odd (omega (arith, leb-true (2 ^ n) (shifted b p) ex))
+    by false true ex ey = odd (leb-true b (shifted b p) ey)
+    by false false ex ey =
+        let q = fits-not b (p / 2) (p % 2) (shifted b p) refl (leb-false b (shifted b p) ey) .0 in
+        add-zero (ones (p / 2 / b)) ∙ sym (ones-even (p / 2 / b)) ∙ ap ones (sym q ∙ ap (λ (x : ℕ). x / b) whole)
+
+-- so every one of the quotient comes by one of the two
+pub all-ones : (n b k p : ℕ) → 0 < b → b ≤ 2 ^ n → p / 2 ^ k < b → shiftedOuts n b k p + noBorrows n b k p ≡ ones (p / b)
 unfolding tally ones
-plain-ones n b zero p pos h small = let none : p / b ≡ 0 = div-eq-of-lt (omega arith) in sym (ap ones none)
-plain-ones n b (suc k) p pos h small =
-    ap (λ (r : Road). noBorrows n b k (p / 2) + byNoBorrow r) (never-out n b p pos h) ∙ one-more n b k p pos (plain-ones n b k (p / 2) pos h halved)
+all-ones n b zero p pos hb small = let none : p / b ≡ 0 = div-eq-of-lt (omega arith) in sym (ap ones none)
+all-ones n b (suc k) p pos hb small = omega (arith, all-ones n b k (p / 2) pos hb halved, one-more n b p pos hb)
   where
     halved : p / 2 / 2 ^ k < b
     halved = rw div-div-eq-div-mul (rw (mul-comm 2 (2 ^ k), ← pow-suc 2 k) small)
 
--- ---- the steps road by road: 7, 8 or 7 for a round, and 1 for each jump back
+-- with a divisor of at most half the range none comes by a bit shifted out
+pub none-out : (n b k p : ℕ) → 0 < b → b * 2 ≤ 2 ^ n → shiftedOuts n b k p ≡ 0
+unfolding tally
+none-out n b zero p pos h = refl
+none-out n b (suc k) p pos h = omega (arith, none-out n b k (p / 2) pos h, ap byShiftedOut (never-out n b p pos h), by (leb b (shifted b p)))
+  where
+    by : (y : Bool) → byShiftedOut (roadBy false y) ≡ 0
+    by true = refl
+    by false = refl
 
-abbrev pub roadSteps : Road → ℕ
-roadSteps shiftedOut = 7 + 1
-roadSteps noBorrow = 8 + 1
-roadSteps borrows = 7 + 1
+-- and so all come by no borrow
+pub plain-ones : (n b k p : ℕ) → 0 < b → b * 2 ≤ 2 ^ n → p / 2 ^ k < b → noBorrows n b k p ≡ ones (p / b)
+plain-ones n b k p pos h small = omega (arith, all-ones n b k p pos (omega arith) small, none-out n b k p pos h)
 
-abbrev pub walkSteps : ℕ → ℕ → ℕ → ℕ → ℕ
-walkSteps = tally roadSteps
+-- ---- the steps
 
 walk-steps : (n b k p : ℕ) → walkSteps n b k p ≡ 8 * k + noBorrows n b k p
 unfolding tally
@@ -73,6 +85,35 @@ walk-steps n b (suc k) p = omega (arith, walk-steps n b k (p / 2), by (road n b 
     by noBorrow = refl
     by borrows = refl
 
--- 3 steps before the rounds; no jump back after the last; 4 at the end, and 2 more by way of a last bit 1: the chart's total
-pub road-by-road : (n b d : ℕ) → 0 < n → 3 + (walkSteps n b n d - 1) + (4 + 2 * (d / b % 2)) ≡ cordSteps n b d
+-- road by road they come to the chart's total
+pub road-by-road : (n b d : ℕ) → 0 < n → stepsByRoad n b d ≡ cordSteps n b d
 road-by-road n b d hn = omega (arith, walk-steps n b n d)
+
+-- and in the chart's words the total is 7 + 8n and the count of ones by no borrow, plus 1 if the quotient is odd, else minus 1
+pub as-charted : (n b d : ℕ) → cond (eqb (d / b % 2) 1) (7 + 8 * n + noBorrows n b n d + 1) (7 + 8 * n + noBorrows n b n d - 1) ≡ cordSteps n b d
+as-charted n b d = by (d / b % 2) (mod-lt (d / b) {m = 2} (lit< tt))
+  where
+    by : (k : ℕ) → k < 2 → cond (eqb k 1) (7 + 8 * n + noBorrows n b n d + 1) (7 + 8 * n + noBorrows n b n d - 1) ≡ 6 + 8 * n + noBorrows n b n d + 2 * k
+    by zero h = omega arith
+    by (suc zero) h = omega arith
+    by (suc (suc k)) h = absurd (omega arith)
+
+-- ---- of CORD's answer
+
+-- the two tallies of one that it accepts add up to the ones of its quotient
+pub cord-adds-up : (n b d steps : ℕ) {r : Results} → b ≤ 2 ^ n → cord n b d steps .outcome ≡ accepted r
+    → cord n b d steps .roads .shiftedOut + cord n b d steps .roads .noBorrow ≡ ones (r .quotient)
+unfolding cord
+cord-adds-up n b d steps {r} hb e = by (leb b (d / 2 ^ n)) refl
+  where
+    isRefused : CordOutcome → Bool
+    isRefused (accepted r) = false
+    isRefused refused = true
+
+    by : (x : Bool) → leb b (d / 2 ^ n) ≡ x → cord n b d steps .roads .shiftedOut + cord n b d steps .roads .noBorrow ≡ ones (r .quotient)
+    by true h = let e′ = rw h at e in absurd (true≢false (ap isRefused e′))
+    by false h =
+        let e′ = rw h at e in
+        let same : r ≡ record { quotient = d / b; remainder = d % b } = cc in
+        let first = leb-false b (d / 2 ^ n) h in
+        rw h (all-ones n b n d (omega arith) hb first ∙ ap (λ (w : Results). ones (w .quotient)) (sym same))

@@ -15,11 +15,21 @@ pub data CordOutcome : Type 0 where
   accepted : Results → CordOutcome
   refused : CordOutcome
 
--- besides, whichever it is: C, the left side of the last compare made, and the steps
+-- how many ones of the quotient came by each of two roads
+pub record Roads : Type 0 where
+  pub shiftedOut : ℕ
+  pub noBorrow : ℕ
+
+-- the two tallies together
+abbrev pub bothRoads : ℕ → ℕ → Roads
+bothRoads u v = record { shiftedOut = u; noBorrow = v }
+
+-- besides, whichever it is: C, the left side of the last compare made, the ones by each road, and the steps
 pub record CordAnswer : Type 0 where
   pub outcome : CordOutcome
   pub carry : Bool
   pub compared : ℕ
+  pub roads : Roads
   pub steps : ℕ
 
 -- the rounds take in the dividend's lower half bit by bit. p is the dividend as far as it is taken in, the bit just taken last; what the
@@ -46,6 +56,16 @@ unfoldable pub tally : (Road → ℕ) → ℕ → ℕ → ℕ → ℕ → ℕ
 tally counts n b zero p = 0
 tally counts n b (suc k) p = tally counts n b k (p / 2) + counts (road n b p)
 
+-- a one by a bit shifted out
+abbrev pub byShiftedOut : Road → ℕ
+byShiftedOut shiftedOut = 1
+byShiftedOut noBorrow = 0
+byShiftedOut borrow = 0
+
+-- how many there are
+abbrev pub shiftedOuts : ℕ → ℕ → ℕ → ℕ → ℕ
+shiftedOuts = tally byShiftedOut
+
 -- a one by no borrow
 abbrev pub byNoBorrow : Road → ℕ
 byNoBorrow shiftedOut = 0
@@ -55,6 +75,14 @@ byNoBorrow borrow = 0
 -- how many there are
 abbrev pub noBorrows : ℕ → ℕ → ℕ → ℕ → ℕ
 noBorrows = tally byNoBorrow
+
+-- both, over all n rounds
+abbrev pub roadsOf : ℕ → ℕ → ℕ → Roads
+roadsOf n b d = bothRoads (shiftedOuts n b n d) (noBorrows n b n d)
+
+-- where there is no quotient
+abbrev pub noRoads : Roads
+noRoads = bothRoads 0 0
 
 -- a round in which a bit is shifted out makes no compare
 abbrev pub lastBy : Road → ℕ → ℕ → ℕ
@@ -73,15 +101,16 @@ cordSteps n b d = 6 + 8 * n + noBorrows n b n d + 2 * (d / b % 2)
 
 -- refused where the upper half is at least the divisor, after the one compare and 4 steps, with C clear
 abbrev pub cordRefused : ℕ → ℕ → ℕ → CordAnswer
-cordRefused n d steps = record { outcome = refused; carry = false; compared = d / 2 ^ n; steps = steps + 4 }
+cordRefused n d steps = record { outcome = refused; carry = false; compared = d / 2 ^ n; roads = noRoads; steps = steps + 4 }
 
--- else the quotient and the remainder; C says that the quotient lies below the top bit
+-- else the quotient and the remainder, and the roads of the quotient's ones; C says that the quotient lies below the top bit
 abbrev pub cordAccepted : ℕ → ℕ → ℕ → ℕ → CordAnswer
 cordAccepted n b d steps =
     record {
       outcome = accepted (record { quotient = d / b; remainder = d % b });
       carry = ltb (d / b) (top n);
       compared = lastCompare n b n d;
+      roads = roadsOf n b d;
       steps = steps + cordSteps n b d;
     }
 

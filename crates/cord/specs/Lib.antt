@@ -1,3 +1,4 @@
 pub mod Round
 pub mod Cord
+pub mod ByRoad
 pub mod Views

@@ -14,7 +14,7 @@ use Rattle.cord.specs.declared.CordOutcome16.the-variants.{Accepted as C
 use Rattle.cord.specs.declared.CordAnswer16.{CordAnswer16}
 
 abbrev pub round8 : CordRound8 → Round
-round8 s = record { tmpa = s .tmpa; tmpc = s .tmpc; compared = s .compared; steps = s .steps }
+round8 s = record { tmpa = s .tmpa; tmpc = s .tmpc; compared = s .compared; shiftedOut = s .«shifted_out»; noBorrow = s .«no_borrow» }
 
 abbrev pub results8 : Results8 → Cord.Results
 results8 r = record { quotient = r .quotient; remainder = r .remainder }
@@ -24,10 +24,17 @@ cordOutcome8 (CordAccepted8 r) = Cord.accepted (results8 r)
 cordOutcome8 CordRefused8 = Cord.refused
 
 abbrev pub cordAnswer8 : CordAnswer8 → Cord.CordAnswer
-cordAnswer8 a = record { outcome = cordOutcome8 (a .outcome); carry = a .carry; compared = a .compared; steps = a .steps }
+cordAnswer8 a =
+    record {
+      outcome = cordOutcome8 (a .outcome);
+      carry = a .carry;
+      compared = a .compared;
+      roads = Cord.bothRoads (a .«shifted_out») (a .«no_borrow»);
+      steps = a .steps;
+    }
 
 abbrev pub round16 : CordRound16 → Round
-round16 s = record { tmpa = s .tmpa; tmpc = s .tmpc; compared = s .compared; steps = s .steps }
+round16 s = record { tmpa = s .tmpa; tmpc = s .tmpc; compared = s .compared; shiftedOut = s .«shifted_out»; noBorrow = s .«no_borrow» }
 
 abbrev pub results16 : Results16 → Cord.Results
 results16 r = record { quotient = r .quotient; remainder = r .remainder }
@@ -37,4 +44,11 @@ cordOutcome16 (CordAccepted16 r) = Cord.accepted (results16 r)
 cordOutcome16 CordRefused16 = Cord.refused
 
 abbrev pub cordAnswer16 : CordAnswer16 → Cord.CordAnswer
-cordAnswer16 a = record { outcome = cordOutcome16 (a .outcome); carry = a .carry; compared = a .compared; steps = a .steps }
+cordAnswer16 a =
+    record {
+      outcome = cordOutcome16 (a .outcome);
+      carry = a .carry;
+      compared = a .compared;
+      roads = Cord.bothRoads (a .«shifted_out») (a .«no_borrow»);
+      steps = a .steps;
+    }

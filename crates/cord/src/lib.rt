@@ -11,12 +11,14 @@ use alu::subtraction;
 use flags::width::Width8;
 use flags::width::Width16;
 
-// Besides the halves and the steps: the left side of the last compare made, which sets the flags.
+// Besides the halves: the left side of the last compare made, which sets the flags, and the ones so far
+// by each of the two roads that make one. The steps follow from those by no borrow.
 pub struct CordRound8 {
     pub tmpa: u8,
     pub tmpc: u8,
     pub compared: u8,
-    pub steps: u16,
+    pub shifted_out: u16,
+    pub no_borrow: u16,
 }
 
 pub struct Results8 {
@@ -29,17 +31,19 @@ pub enum CordOutcome8 {
     Refused,
 }
 
-// C, the left side of the last compare made, and the steps, whatever came of it.
+// C, the left side of the last compare made, the ones by each road and the steps, whatever came of it.
 pub struct CordAnswer8 {
     pub outcome: CordOutcome8,
     pub carry: bool,
     pub compared: u8,
+    pub shifted_out: u16,
+    pub no_borrow: u16,
     pub steps: u16,
 }
 
-// A round, without the jump back, by one of three roads: a bit shifted out, no borrow, borrow.
+// A round, by one of three roads: a bit shifted out, no borrow, borrow.
 fn cord_round8(from: CordRound8, tmpb: u8) -> CordRound8
-    requires { ⌜ (from .tmpa < tmpb) × (from .steps < 1000) ⌝ }
+    requires { ⌜ (from .tmpa < tmpb) × (from .«shifted_out» < 100) × (from .«no_borrow» < 100) ⌝ }
     ensures { λ r. ⌜ round8 r ≡ cordRound 8 tmpb (round8 from) ⌝ }
 {
     let lower = step::left8(false, from.tmpc);
@@ -50,7 +54,8 @@ fn cord_round8(from: CordRound8, tmpb: u8) -> CordRound8
             tmpa: rest.result,
             tmpc: lower.value | 1,
             compared: from.compared,
-            steps: from.steps + 7,
+            shifted_out: from.shifted_out + 1,
+            no_borrow: from.no_borrow,
         };
     }
     if tmpb <= upper.value {
@@ -58,19 +63,23 @@ fn cord_round8(from: CordRound8, tmpb: u8) -> CordRound8
             tmpa: upper.value - tmpb,
             tmpc: lower.value | 1,
             compared: upper.value,
-            steps: from.steps + 8,
+            shifted_out: from.shifted_out,
+            no_borrow: from.no_borrow + 1,
         }
     } else {
         CordRound8 {
             tmpa: upper.value,
             tmpc: lower.value,
             compared: upper.value,
-            steps: from.steps + 7,
+            shifted_out: from.shifted_out,
+            no_borrow: from.no_borrow,
         }
     }
 }
 
-// The quotient fits its half exactly if the upper half is below the divisor, so one compare refuses.
+// The quotient fits its half exactly if the upper half is below the divisor, so one compare refuses. Else
+// there are 3 steps before the rounds, 7 in each, 1 for each jump back and 4 at the end: 6, and 8 a round.
+// A one by no borrow takes 1 more, and an odd quotient 2.
 pub fn cord8(tmpa: u8, tmpb: u8, tmpc: u8, steps: u16) -> CordAnswer8
     requires { ⌜ steps < 100 ⌝ }
     ensures { λ r. ⌜ cordAnswer8 r ≡ cord 8 tmpb (tmpa * 0x100 + tmpc) steps ⌝ }
@@ -80,6 +89,8 @@ pub fn cord8(tmpa: u8, tmpb: u8, tmpc: u8, steps: u16) -> CordAnswer8
             outcome: CordOutcome8::Refused,
             carry: false,
             compared: tmpa,
+            shifted_out: 0,
+            no_borrow: 0,
             steps: steps + 4,
         };
     }
@@ -87,34 +98,35 @@ pub fn cord8(tmpa: u8, tmpb: u8, tmpc: u8, steps: u16) -> CordAnswer8
         tmpa,
         tmpc,
         compared: tmpa,
-        steps: steps + 3,
+        shifted_out: 0,
+        no_borrow: 0,
     };
     let mut internal_counter = Width8::BITS;
-    let end = loop {
+    while internal_counter != 0 {
         at = cord_round8(at, tmpb);
         internal_counter -= 1;
-        if internal_counter == 0 {
-            break at;
-        }
-        at.steps += 1;
-    };
+    }
     CordAnswer8 {
         outcome: CordOutcome8::Accepted(Results8 {
-            quotient: end.tmpc,
-            remainder: end.tmpa,
+            quotient: at.tmpc,
+            remainder: at.tmpa,
         }),
-        carry: end.tmpc & Width8::TOP == 0,
-        compared: end.compared,
-        steps: end.steps + 4 + 2 * (end.tmpc & 1) as u16,
+        carry: at.tmpc & Width8::TOP == 0,
+        compared: at.compared,
+        shifted_out: at.shifted_out,
+        no_borrow: at.no_borrow,
+        steps: steps + 6 + 8 * Width8::BITS as u16 + at.no_borrow + 2 * (at.tmpc & 1) as u16,
     }
 }
 
-// Besides the halves and the steps: the left side of the last compare made, which sets the flags.
+// Besides the halves: the left side of the last compare made, which sets the flags, and the ones so far
+// by each of the two roads that make one. The steps follow from those by no borrow.
 pub struct CordRound16 {
     pub tmpa: u16,
     pub tmpc: u16,
     pub compared: u16,
-    pub steps: u16,
+    pub shifted_out: u16,
+    pub no_borrow: u16,
 }
 
 pub struct Results16 {
@@ -127,17 +139,19 @@ pub enum CordOutcome16 {
     Refused,
 }
 
-// C, the left side of the last compare made, and the steps, whatever came of it.
+// C, the left side of the last compare made, the ones by each road and the steps, whatever came of it.
 pub struct CordAnswer16 {
     pub outcome: CordOutcome16,
     pub carry: bool,
     pub compared: u16,
+    pub shifted_out: u16,
+    pub no_borrow: u16,
     pub steps: u16,
 }
 
-// A round, without the jump back, by one of three roads: a bit shifted out, no borrow, borrow.
+// A round, by one of three roads: a bit shifted out, no borrow, borrow.
 fn cord_round16(from: CordRound16, tmpb: u16) -> CordRound16
-    requires { ⌜ (from .tmpa < tmpb) × (from .steps < 1000) ⌝ }
+    requires { ⌜ (from .tmpa < tmpb) × (from .«shifted_out» < 100) × (from .«no_borrow» < 100) ⌝ }
     ensures { λ r. ⌜ round16 r ≡ cordRound 16 tmpb (round16 from) ⌝ }
 {
     let lower = step::left16(false, from.tmpc);
@@ -148,7 +162,8 @@ fn cord_round16(from: CordRound16, tmpb: u16) -> CordRound16
             tmpa: rest.result,
             tmpc: lower.value | 1,
             compared: from.compared,
-            steps: from.steps + 7,
+            shifted_out: from.shifted_out + 1,
+            no_borrow: from.no_borrow,
         };
     }
     if tmpb <= upper.value {
@@ -156,19 +171,23 @@ fn cord_round16(from: CordRound16, tmpb: u16) -> CordRound16
             tmpa: upper.value - tmpb,
             tmpc: lower.value | 1,
             compared: upper.value,
-            steps: from.steps + 8,
+            shifted_out: from.shifted_out,
+            no_borrow: from.no_borrow + 1,
         }
     } else {
         CordRound16 {
             tmpa: upper.value,
             tmpc: lower.value,
             compared: upper.value,
-            steps: from.steps + 7,
+            shifted_out: from.shifted_out,
+            no_borrow: from.no_borrow,
         }
     }
 }
 
-// The quotient fits its half exactly if the upper half is below the divisor, so one compare refuses.
+// The quotient fits its half exactly if the upper half is below the divisor, so one compare refuses. Else
+// there are 3 steps before the rounds, 7 in each, 1 for each jump back and 4 at the end: 6, and 8 a round.
+// A one by no borrow takes 1 more, and an odd quotient 2.
 pub fn cord16(tmpa: u16, tmpb: u16, tmpc: u16, steps: u16) -> CordAnswer16
     requires { ⌜ steps < 100 ⌝ }
     ensures { λ r. ⌜ cordAnswer16 r ≡ cord 16 tmpb (tmpa * 0x1_0000 + tmpc) steps ⌝ }
@@ -178,6 +197,8 @@ pub fn cord16(tmpa: u16, tmpb: u16, tmpc: u16, steps: u16) -> CordAnswer16
             outcome: CordOutcome16::Refused,
             carry: false,
             compared: tmpa,
+            shifted_out: 0,
+            no_borrow: 0,
             steps: steps + 4,
         };
     }
@@ -185,24 +206,23 @@ pub fn cord16(tmpa: u16, tmpb: u16, tmpc: u16, steps: u16) -> CordAnswer16
         tmpa,
         tmpc,
         compared: tmpa,
-        steps: steps + 3,
+        shifted_out: 0,
+        no_borrow: 0,
     };
     let mut internal_counter = Width16::BITS;
-    let end = loop {
+    while internal_counter != 0 {
         at = cord_round16(at, tmpb);
         internal_counter -= 1;
-        if internal_counter == 0 {
-            break at;
-        }
-        at.steps += 1;
-    };
+    }
     CordAnswer16 {
         outcome: CordOutcome16::Accepted(Results16 {
-            quotient: end.tmpc,
-            remainder: end.tmpa,
+            quotient: at.tmpc,
+            remainder: at.tmpa,
         }),
-        carry: end.tmpc & Width16::TOP == 0,
-        compared: end.compared,
-        steps: end.steps + 4 + 2 * (end.tmpc & 1),
+        carry: at.tmpc & Width16::TOP == 0,
+        compared: at.compared,
+        shifted_out: at.shifted_out,
+        no_borrow: at.no_borrow,
+        steps: steps + 6 + 8 * Width16::BITS as u16 + at.no_borrow + 2 * (at.tmpc & 1),
     }
 }

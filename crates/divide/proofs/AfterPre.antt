@@ -6,8 +6,8 @@ use native.Mathlib.Omega.{arith}
 use Rattle.flags.specs.declared.word.Flags.{Flags}
 use Rattle.negate.specs.Negate.{Negate}
 use Rattle.cord.specs.Cord as Cord
-use Rattle.cord.specs.Cord.{Results, CordAnswer, cord}
-use Rattle.divide.specs.Idiv.{PostAnswer, preIdiv, postIdiv}
+use Rattle.cord.specs.Cord.{Results, CordAnswer, noRoads, cord}
+use Rattle.idiv.specs.Idiv.{PostAnswer, preIdiv, postIdiv}
 use Rattle.divide.specs.Flags.{compareFlags}
 use Rattle.divide.specs.Divide.{refused, dividendOf, divisorOf, preSteps, divide}
 use Rattle.divide.specs.Finish.{firstRefusal, finished}
@@ -43,7 +43,7 @@ module _ (n : ℕ) (s : AfterPre n) where
   module _ {a : CordAnswer} (e : a ≡ onward) where
     pub refuses : (f : Flags) → a .outcome ≡ Cord.refused → {why : Refusal} → why ≡ firstRefusal (s .divisor)
         → {g : Flags} → g ≡ compareFlags n (a .compared) (s .pre .tmpb) (a .carry) f
-        → record { outcome = refused why; flags = g; steps = a .steps } ≡ divide n true (s .rep) (s .dividend) (s .divisor) f
+        → record { outcome = refused why; flags = g; roads = noRoads; steps = a .steps } ≡ divide n true (s .rep) (s .dividend) (s .divisor) f
     refuses f h ew = signed-refused n (s .dividend) (s .divisor) (s .rep) (s .some) (s .wide) (s .fits) f e h ew right
 
     pub few-after : n ≤ 16 → {r : Results} → a .outcome ≡ Cord.accepted r → a .steps ≤ 175
@@ -52,7 +52,7 @@ module _ (n : ℕ) (s : AfterPre n) where
     pub finishes : (f : Flags) {r : Results} → a .outcome ≡ Cord.accepted r
         → (p : PostAnswer) → p ≡ postIdiv n r (s .dividend / 2 ^ n) (a .carry) (s .pre .negFlag) (a .steps + 3)
         → {g : Flags} → g ≡ compareFlags n (a .compared) (s .pre .tmpb) (a .carry) f
-        → finished p g ≡ divide n true (s .rep) (s .dividend) (s .divisor) f
+        → finished p g (a .roads) ≡ divide n true (s .rep) (s .dividend) (s .divisor) f
     finishes f h p ep eg =
         signed-finished n (s .dividend) (s .divisor) (s .rep) (s .some) (s .wide) (s .fits) f e h
         (pre-flag n (s .dividend) (s .divisor) (s .rep) (s .some) (s .wide) (s .fits) (s .handed)) p ep right eg

@@ -2,6 +2,11 @@
 --
 -- The steps of an accepted signed divide tell of the quotient's magnitude, and of the signs of dividend and divisor: nothing else. So
 -- whoever reads the public log learns of the shelf's magnitude and the two signs, and of the keeper, the remainder, nothing beyond its sign.
+--
+-- Together with its companion (`Companion.antt`) that is what a published log can tell. Of a signed divide: the shelf's magnitude and the
+-- signs. Of an unsigned one by a divisor of at most 2 ^ (n - 1): the quotient. Of an unsigned one by a larger divisor also, to whoever
+-- knows the quotient, how many of its ones came by a bit shifted out, which depends on divisor and remainder; so it then can tell of more than
+-- the shelf.
 -- Assumes nothing.
 use mathlib.Core.Path.{_≡_, ap, ap₂}
 use mathlib.Core.Bool.{Bool, true, cond}

@@ -20,9 +20,9 @@ use Rattle.negate.specs.Negate.{Pair, Negate}
 use Rattle.cord.proofs.CordLaws.{most-ones}
 use Rattle.divide.proofs.Borders.{wide-true, wide-false}
 use Rattle.cord.specs.Cord as Cord
-use Rattle.cord.specs.Cord.{Results, CordAnswer, lastCompare, cordSteps, cordRefused, cordAccepted, cord}
-use Rattle.divide.specs.Idiv as Idiv
-use Rattle.divide.specs.Idiv.{preIdiv, withSign, postIdiv}
+use Rattle.cord.specs.Cord.{Results, CordAnswer, roadsOf, noRoads, lastCompare, cordSteps, cordRefused, cordAccepted, cord}
+use Rattle.idiv.specs.Idiv as Idiv
+use Rattle.idiv.specs.Idiv.{preIdiv, withSign, postIdiv}
 use Rattle.divide.specs.Flags.{compareFlags}
 use Rattle.divide.specs.Divide.{Divided, accepted, refused, accepts, tooWide, applies, refusalOf, quotientOf, remainderOf, dividendOf, divisorOf, atFirst, preSteps, acceptedSteps, refusedSteps, acceptedFlags, refusedFlags, divide}
 use Rattle.divide.specs.Finish.{firstRefusal, finished}
@@ -46,6 +46,7 @@ pub record AcceptedBy (n b d before : ℕ) (a : CordAnswer) (r : Results) : Type
   pub remainder : r .remainder ≡ d % b
   pub carry : a .carry ≡ ltb (d / b) (top n)
   pub compared : a .compared ≡ lastCompare n b n d
+  pub roads : a .roads ≡ roadsOf n b d
   pub steps : a .steps ≡ before + cordSteps n b d
 
 -- of one that it refuses
@@ -74,6 +75,7 @@ module _ (n b d before : ℕ) {a : CordAnswer} where
             remainder = ap (λ (w : Results). w .remainder) results;
             carry = ap (λ (w : CordAnswer). w .carry) e;
             compared = ap (λ (w : CordAnswer). w .compared) e;
+            roads = ap (λ (w : CordAnswer). w .roads) e;
             steps = ap (λ (w : CordAnswer). w .steps) e;
           }
 
@@ -151,9 +153,9 @@ module _ (n : ℕ) (s : Bool) (d b : ℕ) where
   -- the answer, from its parts
   pub refused-is : (rep : Bool) (f : Flags) → accepts n s d b ≡ false → {why : Refusal} {g : Flags} {t : ℕ}
       → why ≡ refusalOf n s d b → g ≡ refusedFlags n s d b f → t ≡ refusedSteps n s d b
-      → record { outcome = refused why; flags = g; steps = t } ≡ divide n s rep d b f
+      → record { outcome = refused why; flags = g; roads = noRoads; steps = t } ≡ divide n s rep d b f
   unfolding divide
-  refused-is rep f e ew eg et = rw e (λ i. record { outcome = refused (ew i); flags = eg i; steps = et i })
+  refused-is rep f e ew eg et = rw e (λ i. record { outcome = refused (ew i); flags = eg i; roads = noRoads; steps = et i })
 
 -- ---- unsigned
 
@@ -163,7 +165,7 @@ unsigned-known n d (suc b) = inr (ne-eqb (suc b) 0 (λ e. omega arith), omega ar
 
 module _ (n d b : ℕ) (rep : Bool) (f : Flags) {a : CordAnswer} (e : a ≡ cord n b d 5) where
   pub unsigned-refused : a .outcome ≡ Cord.refused → {why : Refusal} → why ≡ firstRefusal b → {g : Flags} → g ≡ compareFlags n (a .compared) b (a .carry) f
-      → record { outcome = refused why; flags = g; steps = a .steps } ≡ divide n false rep d b f
+      → record { outcome = refused why; flags = g; roads = noRoads; steps = a .steps } ≡ divide n false rep d b f
   unsigned-refused h ew eg =
       let w = when-refused n b d 5 e h in
       let first = le-leb b (d / 2 ^ n) (w .first) in
@@ -171,7 +173,7 @@ module _ (n d b : ℕ) (rep : Bool) (f : Flags) {a : CordAnswer} (e : a ≡ cord
       refused-is n false d b rep f (le-ltb (d / 2 ^ n) b (w .first)) (ew ∙ first-refusal n false d b (unsigned-known n d b) first) (eg ∙ flags) (w .steps)
 
   pub unsigned-accepted : b < 2 ^ n → {r : Results} → a .outcome ≡ Cord.accepted r → {g : Flags} → g ≡ compareFlags n (a .compared) b (a .carry) f
-      → record { outcome = accepted r; flags = g; steps = a .steps + 2 } ≡ divide n false rep d b f
+      → record { outcome = accepted r; flags = g; roads = a .roads; steps = a .steps + 2 } ≡ divide n false rep d b f
   unfolding divide wrapped
   unsigned-accepted hb {r} h {g} eg =
       let w = when-accepted n b d 5 e h in
@@ -181,7 +183,7 @@ module _ (n d b : ℕ) (rep : Bool) (f : Flags) {a : CordAnswer} (e : a ≡ cord
       let flags = eg ∙ ap₂ (λ (x : ℕ) (y : Bool). compareFlags n x b y f) (w .compared) (w .carry) in
       let steps : a .steps + 2 ≡ 7 + cordSteps n b d = omega (arith, w .steps) in
       rw (lt-ltb (d / 2 ^ n) b (w .passed))
-      (λ i. record { outcome = accepted (record { quotient = quotient i; remainder = remainder i }); flags = flags i; steps = steps i })
+      (λ i. record { outcome = accepted (record { quotient = quotient i; remainder = remainder i }); flags = flags i; roads = w .roads i; steps = steps i })
 
 -- ---- signed
 
@@ -295,7 +297,7 @@ module _ (n d b : ℕ) (rep : Bool) (hn : 0 < n) (hd : d < 2 ^ (n + n)) (hb : b 
   module _ (f : Flags) {a : CordAnswer} (e : a ≡ cord n (divisorOf n true b) (dividendOf n true d) (6 + preSteps n d b)) where
     pub signed-refused : a .outcome ≡ Cord.refused → {why : Refusal} → why ≡ firstRefusal b
         → {k : ℕ} {g : Flags} → k ≡ divisorOf n true b → g ≡ compareFlags n (a .compared) k (a .carry) f
-        → record { outcome = refused why; flags = g; steps = a .steps } ≡ divide n true rep d b f
+        → record { outcome = refused why; flags = g; roads = noRoads; steps = a .steps } ≡ divide n true rep d b f
     signed-refused h ew ek eg =
         let w = when-refused n (divisorOf n true b) (dividendOf n true d) (6 + preSteps n d b) e h in
         let first = le-leb (divisorOf n true b) (dividendOf n true d / 2 ^ n) (w .first) in
@@ -312,14 +314,14 @@ module _ (n d b : ℕ) (rep : Bool) (hn : 0 < n) (hd : d < 2 ^ (n + n)) (hb : b 
       -- refused for sign range
       range-refused : (negate : Bool) {u : ℕ} → Idiv.refused u ≡ postIdiv n r (d / 2 ^ n) (a .carry) negate (a .steps + 3)
           → {k : ℕ} {g : Flags} → k ≡ divisorOf n true b → g ≡ compareFlags n (a .compared) k (a .carry) f
-          → record { outcome = refused SignRange; flags = g; steps = u } ≡ divide n true rep d b f
+          → record { outcome = refused SignRange; flags = g; roads = noRoads; steps = u } ≡ divide n true rep d b f
       unfolding postIdiv
       range-refused negate {u} = by (a .carry) ruled
         where
           by : (c : Bool) → accepts n true d b ≡ c
               → Idiv.refused u ≡ cond c (Idiv.accepted (withSign n negate (r .quotient)) (withSign n (topSet n (d / 2 ^ n)) (r .remainder)) (a .steps + 3 + 10)) (Idiv.refused (a .steps + 3 + 2))
               → {k : ℕ} {g : Flags} → k ≡ divisorOf n true b → g ≡ compareFlags n (a .compared) k c f
-              → record { outcome = refused SignRange; flags = g; steps = u } ≡ divide n true rep d b f
+              → record { outcome = refused SignRange; flags = g; roads = noRoads; steps = u } ≡ divide n true rep d b f
           by true x p ek eg = let z : _≡_ {A = ℕ} 0 1 = cc in absurd (omega arith)
           by false x p ek eg =
               let later = lt-leb (divisorOf n true b) (dividendOf n true d / 2 ^ n) (w .passed) in
@@ -331,7 +333,7 @@ module _ (n d b : ℕ) (rep : Bool) (hn : 0 < n) (hd : d < 2 ^ (n + n)) (hb : b 
       signed-accepted : {negate : Bool} → negate ≡ xor rep (xor (topSet (n + n) d) (topSet n b)) → {q′ r′ u : ℕ}
           → Idiv.accepted q′ r′ u ≡ postIdiv n r (d / 2 ^ n) (a .carry) negate (a .steps + 3)
           → {k : ℕ} {g h : Flags} → k ≡ divisorOf n true b → g ≡ compareFlags n (a .compared) k (a .carry) f → h ≡ setCO false false g
-          → record { outcome = accepted (record { quotient = q′; remainder = r′ }); flags = h; steps = u } ≡ divide n true rep d b f
+          → record { outcome = accepted (record { quotient = q′; remainder = r′ }); flags = h; roads = a .roads; steps = u } ≡ divide n true rep d b f
       unfolding divide postIdiv
       signed-accepted {negate} en {q′} {r′} {u} = by (a .carry) ruled (w .carry)
         where
@@ -356,7 +358,7 @@ module _ (n d b : ℕ) (rep : Bool) (hn : 0 < n) (hd : d < 2 ^ (n + n)) (hb : b 
           by : (c : Bool) → accepts n true d b ≡ c → c ≡ ltb (dividendOf n true d / divisorOf n true b) (top n)
               → Idiv.accepted q′ r′ u ≡ cond c (Idiv.accepted (withSign n negate (r .quotient)) (withSign n (topSet n (d / 2 ^ n)) (r .remainder)) (a .steps + 3 + 10)) (Idiv.refused (a .steps + 3 + 2))
               → {k : ℕ} {g h : Flags} → k ≡ divisorOf n true b → g ≡ compareFlags n (a .compared) k c f → h ≡ setCO false false g
-              → record { outcome = accepted (record { quotient = q′; remainder = r′ }); flags = h; steps = u } ≡ divide n true rep d b f
+              → record { outcome = accepted (record { quotient = q′; remainder = r′ }); flags = h; roads = a .roads; steps = u } ≡ divide n true rep d b f
           by false x y p ek eg eh = let z : _≡_ {A = ℕ} 0 1 = cc in absurd (omega arith)
           by true x y p {k} {g} {h} ek eg eh =
               let s = ltb-true (dividendOf n true d / divisorOf n true b) (top n) (sym y) in
@@ -365,13 +367,13 @@ module _ (n d b : ℕ) (rep : Bool) (hn : 0 < n) (hd : d < 2 ^ (n + n)) (hb : b 
               let eu : u ≡ a .steps + 3 + 10 = cc in
               let flags : h ≡ acceptedFlags n true d b f = eh ∙ ap (setCO false false) (eg ∙ λ i. compareFlags n (w .compared i) (ek i) (y i) f) in
               let steps : u ≡ acceptedSteps n true d b = eu ∙ omega (arith, w .steps) in
-              rw x (λ i. record { outcome = accepted (record { quotient = (eq ∙ quotient s) i; remainder = (er ∙ remainder) i }); flags = flags i; steps = steps i })
+              rw x (λ i. record { outcome = accepted (record { quotient = (eq ∙ quotient s) i; remainder = (er ∙ remainder) i }); flags = flags i; roads = w .roads i; steps = steps i })
 
       -- either way
       pub signed-finished : {negate : Bool} → negate ≡ xor rep (xor (topSet (n + n) d) (topSet n b)) → (p : Idiv.PostAnswer)
           → p ≡ postIdiv n r (d / 2 ^ n) (a .carry) negate (a .steps + 3)
           → {k : ℕ} {g : Flags} → k ≡ divisorOf n true b → g ≡ compareFlags n (a .compared) k (a .carry) f
-          → finished p g ≡ divide n true rep d b f
+          → finished p g (a .roads) ≡ divide n true rep d b f
       signed-finished en (Idiv.accepted q′ r′ u) ep ek eg = signed-accepted en ep ek eg refl
       signed-finished {negate} en (Idiv.refused u) ep ek eg = range-refused negate ep ek eg
 

@@ -1,4 +1,3 @@
-pub mod IdivLaws
 pub mod FlagLaws
 pub mod Borders
 pub mod DivLaws
@@ -8,4 +7,7 @@ pub mod Manual
 pub mod Answers
 pub mod Refusals
 pub mod RefusedFlags
+pub mod Returned
+pub mod RoadsOfDivides
 pub mod Demand3
+pub mod Companion

@@ -10,6 +10,7 @@ use lib.IntN.{ℤ, natAbs}
 use borrow.Author.Tests.{ne-eqb, not-true}
 use Rattle.flags.specs.Numbers.{top, valued}
 use Rattle.flags.specs.declared.word.Flags.{Flags}
+use Rattle.cord.specs.Cord.{noRoads}
 use Rattle.divide.specs.Divide.{Divided, accepted, refused, accepts, tooWide, signRange, applies, refusalOf, quotientOf, atFirst, refusedSteps, refusedFlags, resultsOf, divide}
 use Rattle.divide.specs.Manual.{Division, isRefused}
 use Rattle.divide.specs.declared.div.Refusal.{Refusal}
@@ -130,7 +131,7 @@ module _ (n : ℕ) (s : Bool) (d b : ℕ) (hn : 0 < n) where
   module _ (f : Flags) (rep : Bool) where
     -- the whole answer where a reason applies
     pub refused-whole : (why : Refusal) → applies why n s d b ≡ true
-        → divide n s rep d b f ≡ record { outcome = refused why; flags = refusedFlags n s d b f; steps = refusedSteps n s d b }
+        → divide n s rep d b f ≡ record { outcome = refused why; flags = refusedFlags n s d b f; roads = noRoads; steps = refusedSteps n s d b }
     refused-whole why e =
         let no = not-accepted why e in
         sym (refused-is n s d b rep f no (one-alone n s d b why (refusalOf n s d b) e (told-applies no)) refl refl)

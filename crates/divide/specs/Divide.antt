@@ -8,7 +8,7 @@ use lib.Signed.{quotZ, remZ}
 use Rattle.flags.specs.Numbers.{between, top, topSet, valued, magnitude, wrapped}
 use Rattle.flags.specs.Word.{setCO}
 use Rattle.flags.specs.declared.word.Flags.{Flags}
-use Rattle.cord.specs.Cord.{Results, lastCompare, cordSteps}
+use Rattle.cord.specs.Cord.{Results, Roads, roadsOf, noRoads, lastCompare, cordSteps}
 use Rattle.divide.specs.Flags.{compareFlags}
 use Rattle.divide.specs.declared.div.Refusal.{Refusal}
 use Rattle.divide.specs.declared.div.Refusal.the-variants.{ZeroDivisor, TooWide, SignRange}
@@ -18,10 +18,11 @@ pub data DivideOutcome : Type 0 where
   accepted : Results → DivideOutcome
   refused : Refusal → DivideOutcome
 
--- what a divide answers, with the flags and the steps of either
+-- what a divide answers, with the flags, the roads by which the quotient's ones came, and the steps of either
 pub record Divided : Type 0 where
   pub outcome : DivideOutcome
   pub flags : Flags
+  pub roads : Roads
   pub steps : ℕ
 
 -- the quotient of the numbers that dividend d and divisor b stand for, cut towards zero
@@ -101,6 +102,10 @@ refusedCompare n s d b = cond (atFirst n s d b) (dividendOf n s d / 2 ^ n) (last
 abbrev pub refusedFlags : ℕ → Bool → ℕ → ℕ → Flags → Flags
 refusedFlags n s d b f = compareFlags n (refusedCompare n s d b) (divisorOf n s b) false f
 
+-- the roads by which the ones of an accepted divide came: CORD's, on the magnitudes
+abbrev pub acceptedRoads : ℕ → Bool → ℕ → ℕ → Roads
+acceptedRoads n s d b = roadsOf n (divisorOf n s b) (dividendOf n s d)
+
 -- REP negates a signed quotient
 abbrev pub quotientReturned : Bool → Bool → ℤ → ℤ
 quotientReturned s rep q = cond (s && rep) (negℤ q) q
@@ -110,9 +115,9 @@ abbrev pub resultsOf : ℕ → Bool → Bool → ℕ → ℕ → Results
 resultsOf n s rep d b =
     record { quotient = wrapped n (quotientReturned s rep (quotientOf n s d b)); remainder = wrapped n (remainderOf n s d b) }
 
--- the divide chart: quotient, remainder, flags and steps if accepted; else the refusal, its flags and its steps
+-- the divide chart: quotient, remainder, flags, roads and steps if accepted; else the refusal, its flags, no roads and its steps
 unfoldable pub divide : ℕ → Bool → Bool → ℕ → ℕ → Flags → Divided
 divide n s rep d b f =
     cond (accepts n s d b)
-    (record { outcome = accepted (resultsOf n s rep d b); flags = acceptedFlags n s d b f; steps = acceptedSteps n s d b })
-    (record { outcome = refused (refusalOf n s d b); flags = refusedFlags n s d b f; steps = refusedSteps n s d b })
+    (record { outcome = accepted (resultsOf n s rep d b); flags = acceptedFlags n s d b f; roads = acceptedRoads n s d b; steps = acceptedSteps n s d b })
+    (record { outcome = refused (refusalOf n s d b); flags = refusedFlags n s d b f; roads = noRoads; steps = refusedSteps n s d b })

@@ -1,4 +1,3 @@
-pub mod Idiv
 pub mod Flags
 pub mod Divide
 pub mod Finish

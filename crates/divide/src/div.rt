@@ -2,14 +2,13 @@
 // of one compare, accepted or refused.
 ghost use mathlib.Core.Path.{_≡_};
 ghost use Rattle.flags.specs.Parity.{ParityTable};
+ghost use Rattle.cord.specs.Cord.{bothRoads};
 ghost use Rattle.divide.specs.Flags.{compareFlags};
 ghost use Rattle.divide.specs.Divide.{divide};
 ghost use Rattle.divide.specs.Finish.{firstRefusal, finished};
-ghost use Rattle.divide.specs.Views.{post8Answer, post16Answer, divided8, divided16};
+ghost use Rattle.idiv.specs.Views.{post8Answer, post16Answer};
+ghost use Rattle.divide.specs.Views.{divided8, divided16};
 ghost use mathlib.Core.Bool.{true, false};
-use crate::idiv;
-use crate::idiv::PostIdiv8;
-use crate::idiv::PostIdiv16;
 use alu::subtraction;
 use cord::CordOutcome8;
 use cord::CordOutcome16;
@@ -18,6 +17,8 @@ use cord::Results16;
 use flags::width::Width8;
 use flags::width::Width16;
 use flags::word::Flags;
+use idiv::PostIdiv8;
+use idiv::PostIdiv16;
 use negate::Pair8;
 use negate::Pair16;
 
@@ -45,9 +46,12 @@ pub enum DivideOutcome8 {
     Refused(Refusal),
 }
 
+// The ones by each road are CORD's, and 0 where the divide is refused.
 pub struct Divided8 {
     pub outcome: DivideOutcome8,
     pub flags: Flags,
+    pub shifted_out: u16,
+    pub no_borrow: u16,
     pub steps: u16,
 }
 
@@ -74,19 +78,24 @@ fn unsigned_div8(dividend: u16, divisor: u8, flags: Flags, table: &[u8; 256]) ->
         CordOutcome8::Accepted(results) => Divided8 {
             outcome: DivideOutcome8::Accepted(results),
             flags: compare,
+            shifted_out: made.shifted_out,
+            no_borrow: made.no_borrow,
             steps: made.steps + 2,
         },
         CordOutcome8::Refused => Divided8 {
             outcome: DivideOutcome8::Refused(first_refusal(divisor as u16)),
             flags: compare,
+            shifted_out: 0,
+            no_borrow: 0,
             steps: made.steps,
         },
     }
 }
 
-// What POSTIDIV's answer makes of the divide. C and O are cleared only where it is accepted.
-fn finish8(post: PostIdiv8, compare: Flags) -> Divided8
-    ensures { λ r. ⌜ divided8 r ≡ finished (post8Answer post) compare ⌝ }
+// What POSTIDIV's answer makes of the divide. Only where it is accepted are C and O cleared, and the ones
+// passed on.
+fn finish8(post: PostIdiv8, compare: Flags, shifted_out: u16, no_borrow: u16) -> Divided8
+    ensures { λ r. ⌜ divided8 r ≡ finished (post8Answer post) compare (bothRoads «shifted_out» «no_borrow») ⌝ }
 {
     match post {
         PostIdiv8::Accepted {
@@ -99,11 +108,15 @@ fn finish8(post: PostIdiv8, compare: Flags) -> Divided8
                 remainder,
             }),
             flags: compare.with_co(false, false),
+            shifted_out,
+            no_borrow,
             steps,
         },
         PostIdiv8::Refused { steps } => Divided8 {
             outcome: DivideOutcome8::Refused(Refusal::SignRange),
             flags: compare,
+            shifted_out: 0,
+            no_borrow: 0,
             steps,
         },
     }
@@ -134,11 +147,13 @@ fn signed_div8(
     match outcome {
         CordOutcome8::Accepted(results) => {
             let post = idiv::post_idiv8(results, upper, made.carry, pre.neg_flag, made.steps + 3);
-            finish8(post, compare)
+            finish8(post, compare, made.shifted_out, made.no_borrow)
         }
         CordOutcome8::Refused => Divided8 {
             outcome: DivideOutcome8::Refused(first_refusal(divisor as u16)),
             flags: compare,
+            shifted_out: 0,
+            no_borrow: 0,
             steps: made.steps,
         },
     }
@@ -168,9 +183,12 @@ pub enum DivideOutcome16 {
     Refused(Refusal),
 }
 
+// The ones by each road are CORD's, and 0 where the divide is refused.
 pub struct Divided16 {
     pub outcome: DivideOutcome16,
     pub flags: Flags,
+    pub shifted_out: u16,
+    pub no_borrow: u16,
     pub steps: u16,
 }
 
@@ -197,19 +215,24 @@ fn unsigned_div16(dividend: u32, divisor: u16, flags: Flags, table: &[u8; 256]) 
         CordOutcome16::Accepted(results) => Divided16 {
             outcome: DivideOutcome16::Accepted(results),
             flags: compare,
+            shifted_out: made.shifted_out,
+            no_borrow: made.no_borrow,
             steps: made.steps + 2,
         },
         CordOutcome16::Refused => Divided16 {
             outcome: DivideOutcome16::Refused(first_refusal(divisor)),
             flags: compare,
+            shifted_out: 0,
+            no_borrow: 0,
             steps: made.steps,
         },
     }
 }
 
-// What POSTIDIV's answer makes of the divide. C and O are cleared only where it is accepted.
-fn finish16(post: PostIdiv16, compare: Flags) -> Divided16
-    ensures { λ r. ⌜ divided16 r ≡ finished (post16Answer post) compare ⌝ }
+// What POSTIDIV's answer makes of the divide. Only where it is accepted are C and O cleared, and the ones
+// passed on.
+fn finish16(post: PostIdiv16, compare: Flags, shifted_out: u16, no_borrow: u16) -> Divided16
+    ensures { λ r. ⌜ divided16 r ≡ finished (post16Answer post) compare (bothRoads «shifted_out» «no_borrow») ⌝ }
 {
     match post {
         PostIdiv16::Accepted {
@@ -222,11 +245,15 @@ fn finish16(post: PostIdiv16, compare: Flags) -> Divided16
                 remainder,
             }),
             flags: compare.with_co(false, false),
+            shifted_out,
+            no_borrow,
             steps,
         },
         PostIdiv16::Refused { steps } => Divided16 {
             outcome: DivideOutcome16::Refused(Refusal::SignRange),
             flags: compare,
+            shifted_out: 0,
+            no_borrow: 0,
             steps,
         },
     }
@@ -257,11 +284,13 @@ fn signed_div16(
     match outcome {
         CordOutcome16::Accepted(results) => {
             let post = idiv::post_idiv16(results, upper, made.carry, pre.neg_flag, made.steps + 3);
-            finish16(post, compare)
+            finish16(post, compare, made.shifted_out, made.no_borrow)
         }
         CordOutcome16::Refused => Divided16 {
             outcome: DivideOutcome16::Refused(first_refusal(divisor)),
             flags: compare,
+            shifted_out: 0,
+            no_borrow: 0,
             steps: made.steps,
         },
     }

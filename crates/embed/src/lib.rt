@@ -1,7 +1,8 @@
-// What a program in another language calls: a request given as numbers, whether a divide would trap, an
-// operation over registers that remember their steps, one line, a run over many lines, packed decimal strings
-// added and subtracted, and answer lines read back. Nothing is required of a caller but that each pointer leads
-// to as many bytes as it says, and that what is written overlaps nothing else that is lent.
+// What a program in another language calls: a request given as numbers, whether a divide would trap, by which
+// roads the ones of its quotient came, an operation over registers that remember their steps, one line, a run
+// over many lines, packed decimal strings added and subtracted, and answer lines read back. Nothing is required
+// of a caller but that each pointer leads to as many bytes as it says, and that what is written overlaps nothing
+// else that is lent.
 ghost use mathlib.Core.Path.{_≡_};
 ghost use Prim.Native.Nat.{_/_};
 ghost use lib.ListN.{length};
@@ -9,6 +10,7 @@ ghost use Rattle.line.specs.One.{statusIn, answered};
 ghost use Rattle.line.specs.Run.{done, runOf};
 ghost use Rattle.answer.specs.Asked.{statusOf, partsOf};
 ghost use Rattle.trap.specs.Told.{trapTold, wouldTrap};
+ghost use Rattle.roads.specs.Told.{tallied, roadsTold};
 ghost use Rattle.registers.specs.Over.{over, registersOf, settledAs};
 ghost use Rattle.packed.specs.Sum.{plus, minus};
 ghost use Rattle.packed.specs.Told.{told, toldBy};
@@ -43,6 +45,15 @@ pub extern "C" fn hatchyarn_would_trap(mode: u8, dividend: u32, divisor: u16, tr
     ensures { λ r. ⌜ trapTold r (now (trap .exit)) ≡ wouldTrap mode dividend divisor ⌝ }
 {
     trap::would_trap(mode, dividend, divisor, trap)
+}
+
+// By which roads the ones of a divide's quotient came: how many by a bit shifted out, then how many by no
+// borrow, go into `roads`. Both are 0 unless the status returned is 0.
+#[no_mangle]
+pub extern "C" fn hatchyarn_roads(mode: u8, dividend: u32, divisor: u16, roads: &mut [u16; 2]) -> u8
+    ensures { λ r. ⌜ tallied r (now (roads .exit)) ≡ roadsTold mode dividend divisor ⌝ }
+{
+    roads::roads(mode, dividend, divisor, roads)
 }
 
 // An operation over AX, DX, the flags and the total of steps, which it changes in place; its steps go into

@@ -21,8 +21,9 @@ use Rattle.request.specs.Operation.{ops, listed, operationOf}
 use Rattle.request.specs.Judge.{judged}
 use Rattle.answer.specs.Charted.{charted}
 use Rattle.answer.specs.Asked.{asked}
+use Rattle.roads.specs.Told.{roadsTold}
 use Rattle.marked.specs.Marked.{Marked, marked}
 
-pub all-marked : map (λ (m : Marked). m .tells (asked (m .request))) marked ≡ map (λ (m : Marked). m .says) marked
-unfolding wordOf flagsOf isFlags signed fitsSigned wrapped adc sbb left right step steps leftward rightward downward xor road tally lastCompare compareFlags refusalOf divide multiply ones onesIn ascii aaaOf decimal daaOf evenOnes szp ops listed operationOf judged charted asked
+pub all-marked : map (λ (m : Marked). m .tells (m .request)) marked ≡ map (λ (m : Marked). m .says) marked
+unfolding wordOf flagsOf isFlags signed fitsSigned wrapped adc sbb left right step steps leftward rightward downward xor road tally lastCompare compareFlags refusalOf divide multiply ones onesIn ascii aaaOf decimal daaOf evenOnes szp ops listed operationOf judged charted asked roadsTold
 all-marked = refl

@@ -1,40 +1,50 @@
 -- The scope's marked examples, in its order: a request, what the scope tells of its answer, and what it says. An example says as much as
--- the scope does: the status, and a result, a flags word, a single flag or the steps. Assumes nothing.
+-- the scope does: the status, and a result, a flags word, a single flag or the steps. M7 and M8, two divides
+-- with one quotient whose steps differ, also say by which road its one came. Assumes nothing.
 use mathlib.Core.List.{List, [], _∷_}
 use Prim.Native.Nat.{ℕ}
 use Rattle.flags.specs.Numbers.{bit, isSet}
-use Rattle.answer.specs.Asked.{Raw, raw}
+use Rattle.answer.specs.Asked.{Raw, raw, asked}
 use Rattle.answer.specs.declared.answer.Answer.{Answer}
+use Rattle.roads.specs.Told.{roadsTold}
 
 -- an example; a request is op, mode, flags, X and Y
 pub record Marked : Type 0 where
   pub request : Raw
-  pub tells : Answer → List ℕ
+  pub tells : Raw → List ℕ
   pub says : List ℕ
 
+-- of the answer to a request
+abbrev ofAnswer : (Answer → List ℕ) → Raw → List ℕ
+ofAnswer tells r = tells (asked r)
+
 -- a result and the flags word
-abbrev result : Answer → List ℕ
-result a = a .status ∷ a .r ∷ a .flags ∷ []
+abbrev result : Raw → List ℕ
+result = ofAnswer (λ a. a .status ∷ a .r ∷ a .flags ∷ [])
 
 -- a product and its steps
-abbrev product : Answer → List ℕ
-product a = a .status ∷ a .r ∷ a .steps ∷ []
+abbrev product : Raw → List ℕ
+product = ofAnswer (λ a. a .status ∷ a .r ∷ a .steps ∷ [])
 
 -- quotient, remainder and steps
-abbrev divided : Answer → List ℕ
-divided a = a .status ∷ a .r ∷ a .s ∷ a .steps ∷ []
+abbrev divided : Raw → List ℕ
+divided = ofAnswer (λ a. a .status ∷ a .r ∷ a .s ∷ a .steps ∷ [])
+
+-- the same, and the quotient's ones by a bit shifted out and by no borrow
+abbrev dividedByRoads : Raw → List ℕ
+dividedByRoads r = let a = asked r in a .status ∷ a .r ∷ a .s ∷ a .steps ∷ roadsTold (r .mode) (r .x) (r .y) .roads
 
 -- a refusal, its flags word and its steps
-abbrev refused : Answer → List ℕ
-refused a = a .status ∷ a .flags ∷ a .steps ∷ []
+abbrev refused : Raw → List ℕ
+refused = ofAnswer (λ a. a .status ∷ a .flags ∷ a .steps ∷ [])
 
 -- one flag, by its bit: C is 0 and Z is 6
-abbrev flag : ℕ → Answer → List ℕ
-flag k a = a .status ∷ bit (isSet k (a .flags)) ∷ []
+abbrev flag : ℕ → Raw → List ℕ
+flag k = ofAnswer (λ a. a .status ∷ bit (isSet k (a .flags)) ∷ [])
 
 -- a result and one flag
-abbrev resultAndFlag : ℕ → Answer → List ℕ
-resultAndFlag k a = a .status ∷ a .r ∷ bit (isSet k (a .flags)) ∷ []
+abbrev resultAndFlag : ℕ → Raw → List ℕ
+resultAndFlag k = ofAnswer (λ a. a .status ∷ a .r ∷ bit (isSet k (a .flags)) ∷ [])
 
 -- the list
 abbrev pub marked : List Marked
@@ -53,9 +63,10 @@ marked =
     ∷ record { request = raw 0x10 0x06 0x0000 0x80 0x80; tells = product; says = 0 ∷ 0xC000 ∷ 89 ∷ [] }
     -- M6: unsigned FF x FF is FE01 in 74 steps
     ∷ record { request = raw 0x10 0x00 0x0000 0xFF 0xFF; tells = product; says = 0 ∷ 0xFE01 ∷ 74 ∷ [] }
-    -- M7 and M8: 00FF / FF is 1 r 0 in 80 steps, 0100 / C8 is 1 r 38 in 79
-    ∷ record { request = raw 0x11 0x00 0x0000 0x00FF 0xFF; tells = divided; says = 0 ∷ 0x01 ∷ 0x00 ∷ 80 ∷ [] }
-    ∷ record { request = raw 0x11 0x00 0x0000 0x0100 0xC8; tells = divided; says = 0 ∷ 0x01 ∷ 0x38 ∷ 79 ∷ [] }
+    -- M7 and M8: 00FF / FF is 1 r 0 in 80 steps, 0100 / C8 is 1 r 38 in 79. The one of the first came by no borrow, which takes a step more,
+    -- that of the second by a bit shifted out
+    ∷ record { request = raw 0x11 0x00 0x0000 0x00FF 0xFF; tells = dividedByRoads; says = 0 ∷ 0x01 ∷ 0x00 ∷ 80 ∷ 0 ∷ 1 ∷ [] }
+    ∷ record { request = raw 0x11 0x00 0x0000 0x0100 0xC8; tells = dividedByRoads; says = 0 ∷ 0x01 ∷ 0x38 ∷ 79 ∷ 1 ∷ 0 ∷ [] }
     -- M9: signed FF81 / 01 is 81 r 0 in 111 steps; FF80 / 01 is refused for sign range after 95, A P
     ∷ record { request = raw 0x11 0x02 0x0000 0xFF81 0x01; tells = divided; says = 0 ∷ 0x81 ∷ 0x00 ∷ 111 ∷ [] }
     ∷ record { request = raw 0x11 0x02 0x0000 0xFF80 0x01; tells = refused; says = 9 ∷ 0x0014 ∷ 95 ∷ [] }

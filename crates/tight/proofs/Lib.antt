@@ -5,12 +5,14 @@ pub mod OfAlu
 pub mod OfNegate
 pub mod OfMultiply
 pub mod OfCord
+pub mod OfIdiv
 pub mod OfDivide
 pub mod OfBcd
 pub mod OfPacked
 pub mod OfRequest
 pub mod OfAnswer
 pub mod OfTrap
+pub mod OfRoads
 pub mod OfRegisters
 pub mod OfOperations
 pub mod OfText

@@ -10,6 +10,9 @@ module _ {M : Type 1} where
   pub lib-hatchyarn-would-trap : Tight M lib.hatchyarn_would_trap.signature lib.hatchyarn_would_trap.clauses
   lib-hatchyarn-would-trap c g r s = plainly (c .𝓤) (λ e d. let t = same e d in (λ i. t i .status, λ i. (tt, (tt, (tt, (t i .trap, tt))))))
 
+  pub lib-hatchyarn-roads : Tight M lib.hatchyarn_roads.signature lib.hatchyarn_roads.clauses
+  lib-hatchyarn-roads c g r s = plainly (c .𝓤) (λ e d. let t = same e d in (λ i. t i .status, λ i. (tt, (tt, (tt, (t i .roads, tt))))))
+
   pub lib-hatchyarn-registers : Tight M lib.hatchyarn_registers.signature lib.hatchyarn_registers.clauses
   lib-hatchyarn-registers c g r s = plainly (c .𝓤) (λ e d. let t = same e d in (λ i. t i .status, λ i. (tt, (tt, (tt, (t i .regs .ax, (t i .regs .dx, (t i .regs .flags, (t i .regs .total, (t i .steps, tt))))))))))
 

@@ -30,11 +30,11 @@ use Rattle.cord.specs.declared.CordOutcome8.the-variants.{Accepted as cordAccep
 use Rattle.cord.specs.declared.CordAnswer16.{CordAnswer16}
 use Rattle.cord.specs.declared.CordOutcome16.{CordOutcome16}
 use Rattle.cord.specs.declared.CordOutcome16.the-variants.{Accepted as cordAccepted16, Refused as cordRefused16}
-use Rattle.divide.specs.Idiv as Idiv
-use Rattle.divide.specs.declared.idiv.PostIdiv8.{PostIdiv8}
-use Rattle.divide.specs.declared.idiv.PostIdiv8.the-variants.{Accepted as postAccepted8, Refused as postRefused8}
-use Rattle.divide.specs.declared.idiv.PostIdiv16.{PostIdiv16}
-use Rattle.divide.specs.declared.idiv.PostIdiv16.the-variants.{Accepted as postAccepted16, Refused as postRefused16}
+use Rattle.idiv.specs.Idiv as Idiv
+use Rattle.idiv.specs.declared.PostIdiv8.{PostIdiv8}
+use Rattle.idiv.specs.declared.PostIdiv8.the-variants.{Accepted as postAccepted8, Refused as postRefused8}
+use Rattle.idiv.specs.declared.PostIdiv16.{PostIdiv16}
+use Rattle.idiv.specs.declared.PostIdiv16.the-variants.{Accepted as postAccepted16, Refused as postRefused16}
 use Rattle.divide.specs.Divide as Divide
 use Rattle.divide.specs.declared.div.Divided8.{Divided8}
 use Rattle.divide.specs.declared.div.DivideOutcome8.{DivideOutcome8}
@@ -46,7 +46,8 @@ use Rattle.alu.specs.Views.{c8, c16, co8, co16, coa8, coa16, step8, step16}
 use Rattle.negate.specs.Views.{negate8, negate16}
 use Rattle.multiply.specs.Views.{halves8, halves16, product8, product16}
 use Rattle.cord.specs.Views.{cordOutcome8, cordOutcome16, cordAnswer8, cordAnswer16}
-use Rattle.divide.specs.Views.{post8Answer, post16Answer, outcome8, outcome16, divided8, divided16}
+use Rattle.idiv.specs.Views.{post8Answer, post16Answer}
+use Rattle.divide.specs.Views.{outcome8, outcome16, divided8, divided16}
 use Rattle.tight.proofs.Law.{Faithful}
 
 pub c8-faithful : Faithful c8
@@ -107,8 +108,22 @@ cordOutcome8-kept cordRefused8 = refl
 pub cordAnswer8-faithful : Faithful cordAnswer8
 cordAnswer8-faithful =
     record {
-      back = λ (g : Cord.CordAnswer). record { outcome = cordOutcome8-back (g .outcome); carry = g .carry; compared = g .compared; steps = g .steps };
-      kept = λ a. λ i. record { outcome = cordOutcome8-kept (a .outcome) i; carry = a .carry; compared = a .compared; steps = a .steps };
+      back = λ (g : Cord.CordAnswer). record {
+        outcome = cordOutcome8-back (g .outcome);
+        carry = g .carry;
+        compared = g .compared;
+        «shifted_out» = g .roads .shiftedOut;
+        «no_borrow» = g .roads .noBorrow;
+        steps = g .steps;
+      };
+      kept = λ a. λ i. record {
+        outcome = cordOutcome8-kept (a .outcome) i;
+        carry = a .carry;
+        compared = a .compared;
+        «shifted_out» = a .«shifted_out»;
+        «no_borrow» = a .«no_borrow»;
+        steps = a .steps;
+      };
     }
 
 abbrev cordOutcome16-back : Cord.CordOutcome → CordOutcome16
@@ -122,8 +137,22 @@ cordOutcome16-kept cordRefused16 = refl
 pub cordAnswer16-faithful : Faithful cordAnswer16
 cordAnswer16-faithful =
     record {
-      back = λ (g : Cord.CordAnswer). record { outcome = cordOutcome16-back (g .outcome); carry = g .carry; compared = g .compared; steps = g .steps };
-      kept = λ a. λ i. record { outcome = cordOutcome16-kept (a .outcome) i; carry = a .carry; compared = a .compared; steps = a .steps };
+      back = λ (g : Cord.CordAnswer). record {
+        outcome = cordOutcome16-back (g .outcome);
+        carry = g .carry;
+        compared = g .compared;
+        «shifted_out» = g .roads .shiftedOut;
+        «no_borrow» = g .roads .noBorrow;
+        steps = g .steps;
+      };
+      kept = λ a. λ i. record {
+        outcome = cordOutcome16-kept (a .outcome) i;
+        carry = a .carry;
+        compared = a .compared;
+        «shifted_out» = a .«shifted_out»;
+        «no_borrow» = a .«no_borrow»;
+        steps = a .steps;
+      };
     }
 
 abbrev post8Answer-back : Idiv.PostAnswer → PostIdiv8
@@ -159,8 +188,20 @@ outcome8-kept (dividedRefused8 why) = refl
 pub divided8-faithful : Faithful divided8
 divided8-faithful =
     record {
-      back = λ (g : Divide.Divided). record { outcome = outcome8-back (g .outcome); flags = g .flags; steps = g .steps };
-      kept = λ d. λ i. record { outcome = outcome8-kept (d .outcome) i; flags = d .flags; steps = d .steps };
+      back = λ (g : Divide.Divided). record {
+        outcome = outcome8-back (g .outcome);
+        flags = g .flags;
+        «shifted_out» = g .roads .shiftedOut;
+        «no_borrow» = g .roads .noBorrow;
+        steps = g .steps;
+      };
+      kept = λ d. λ i. record {
+        outcome = outcome8-kept (d .outcome) i;
+        flags = d .flags;
+        «shifted_out» = d .«shifted_out»;
+        «no_borrow» = d .«no_borrow»;
+        steps = d .steps;
+      };
     }
 
 abbrev outcome16-back : Divide.DivideOutcome → DivideOutcome16
@@ -174,6 +215,18 @@ outcome16-kept (dividedRefused16 why) = refl
 pub divided16-faithful : Faithful divided16
 divided16-faithful =
     record {
-      back = λ (g : Divide.Divided). record { outcome = outcome16-back (g .outcome); flags = g .flags; steps = g .steps };
-      kept = λ d. λ i. record { outcome = outcome16-kept (d .outcome) i; flags = d .flags; steps = d .steps };
+      back = λ (g : Divide.Divided). record {
+        outcome = outcome16-back (g .outcome);
+        flags = g .flags;
+        «shifted_out» = g .roads .shiftedOut;
+        «no_borrow» = g .roads .noBorrow;
+        steps = g .steps;
+      };
+      kept = λ d. λ i. record {
+        outcome = outcome16-kept (d .outcome) i;
+        flags = d .flags;
+        «shifted_out» = d .«shifted_out»;
+        «no_borrow» = d .«no_borrow»;
+        steps = d .steps;
+      };
     }

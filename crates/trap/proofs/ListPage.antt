@@ -4,33 +4,17 @@ use mathlib.Core.Path.{_≡_, refl, sym, ap, subst, _∙_}
 use mathlib.Core.Bool.{Bool, true, false, not, cond}
 use mathlib.Core.List.{[], _∷_}
 use mathlib.Core.Logic.{_⊎_, inl, inr, _↔_}
-use Prim.Native.Nat.{ℕ, _+_, _/_, _%_, _^_, _≤_}
+use Prim.Native.Nat.{ℕ, _+_, _≤_}
 use native.Mathlib.Omega.{arith}
 use lib.Bits.{bitAnd}
-use lib.Dec.{ltb, eqb}
-use borrow.Author.Tests.{eqb-true, le-ltb, le-leb}
-use Rattle.flags.specs.Numbers.{bit, between, isSet}
-use Rattle.divide.specs.declared.div.Refusal.the-variants.{ZeroDivisor, TooWide, SignRange}
+use lib.Dec.{eqb}
+use borrow.Author.Tests.{eqb-true, le-leb}
+use Rattle.flags.specs.Numbers.{bit, between}
 use Rattle.answer.specs.Asked.{statusOf}
 use Rattle.answer.specs.Table.{OneOf}
 use Rattle.trap.specs.Told.{WouldTrap, trapBy, wouldTrap}
-use Rattle.answer.proofs.Table.{byReason}
-use Rattle.trap.proofs.Rows.{large, refusedBy, rowsOf, divide-by-rows, told-by-rows}
-
--- the statuses of a divide
-abbrev SixStatuses : ℕ → Type 0
-SixStatuses k = OneOf k (0 ∷ 4 ∷ 5 ∷ 6 ∷ 8 ∷ 9 ∷ [])
-
-six : (mode x y : ℕ) → SixStatuses (rowsOf mode x y)
-six mode x y = by (ltb 0x07 mode) (large mode x y) (refusedBy ZeroDivisor mode x y) (refusedBy TooWide mode x y) (refusedBy SignRange mode x y)
-  where
-    by : (m l z w r : Bool) → SixStatuses (cond m 4 (cond l 5 (byReason z w r)))
-    by true l z w r = inr (inl refl)
-    by false true z w r = inr (inr (inl refl))
-    by false false true w r = inr (inr (inr (inl refl)))
-    by false false false true r = inr (inr (inr (inr (inl refl))))
-    by false false false false true = inr (inr (inr (inr (inr (inl refl)))))
-    by false false false false false = inl refl
+use Rattle.answer.proofs.DivideRows.{SixStatuses, six, rep-rows, divide-by-rows}
+use Rattle.trap.proofs.Rows.{told-by-rows}
 
 module _ (mode x y : ℕ) where
   -- no status but 0, 4 and 5; and unless it is 0 the answer is yes, so that who looks at nothing else sees closed
@@ -95,13 +79,4 @@ module _ (mode x y : ℕ) where
 
 -- REP changes nothing: the same is told of two modes of a divide that differ in it alone
 pub rep-told-alike : (mode x y : ℕ) → mode ≤ 0x03 → wouldTrap (mode + 0x04) x y ≡ wouldTrap mode x y
-rep-told-alike mode x y h = told-by-rows (mode + 0x04) x y ∙ ap trapBy alike ∙ sym (told-by-rows mode x y)
-  where
-    bit-0 : isSet 0 (mode + 0x04) ≡ isSet 0 mode
-    bit-0 = let same : (mode + 0x04) / 2 ^ 0 % 2 ≡ mode / 2 ^ 0 % 2 = omega arith in rw same
-
-    bit-1 : isSet 1 (mode + 0x04) ≡ isSet 1 mode
-    bit-1 = let same : (mode + 0x04) / 2 ^ 1 % 2 ≡ mode / 2 ^ 1 % 2 = omega arith in rw same
-
-    alike : rowsOf (mode + 0x04) x y ≡ rowsOf mode x y
-    alike = rw (le-ltb 0x07 (mode + 0x04) (omega arith), le-ltb 0x07 mode (omega arith), bit-0, bit-1)
+rep-told-alike mode x y h = told-by-rows (mode + 0x04) x y ∙ ap trapBy (rep-rows mode h x y) ∙ sym (told-by-rows mode x y)

@@ -1,51 +1,27 @@
 -- The table's rows of a divide, and what they make of whether it would trap. Assumes nothing.
 use mathlib.Core.Path.{_≡_, refl, sym, ap, _∙_}
-use mathlib.Core.Bool.{Bool, true, false, not, cond, _||_, true≢false}
+use mathlib.Core.Bool.{Bool, true, false, not, _||_, true≢false}
 use Prim.Native.Nat.{ℕ, _+_, _%_, _^_, _≤_, _<_}
 use native.Mathlib.Nat.{mod-eq-of-lt}
 use native.Mathlib.Omega.{arith}
 use mir.Val.{boolByte}
 use lib.Bits.{bitAnd}
-use lib.Dec.{leb, ltb, eqb}
-use borrow.Author.Tests.{lt-ltb, le-ltb, lt-leb, ltb-false, eq-eqb}
+use lib.Dec.{ltb, eqb}
+use borrow.Author.Tests.{lt-ltb, le-ltb, lt-leb, ltb-false}
 use Rattle.flags.specs.Numbers.{bit, isSet}
 use Rattle.flags.proofs.Masks.{mask-bit, set-masked, set-unmasked}
-use Rattle.divide.specs.Divide.{accepts, applies}
-use Rattle.divide.specs.declared.div.Refusal.{Refusal}
+use Rattle.divide.specs.Divide.{accepts}
 use Rattle.divide.specs.declared.div.Refusal.the-variants.{ZeroDivisor, TooWide, SignRange}
 use Rattle.divide.proofs.Refusals.{three-cover}
-use Rattle.answer.specs.Asked.{raw, statusOf}
 use Rattle.answer.specs.Table.{widthBy}
 use Rattle.trap.specs.Told.{trapTold, trapBy, wouldTrap}
-use Rattle.answer.proofs.Table.{byReason, by-table}
-use Rattle.answer.proofs.Demand1.{some-width}
-
--- an operand that has too many bits for the mode's width
-abbrev pub large : ℕ → ℕ → ℕ → Bool
-large mode x y = leb (2 ^ (widthBy mode + widthBy mode)) x || leb (2 ^ widthBy mode) y
-
--- a reason to refuse the divide of that width and sign rule
-abbrev pub refusedBy : Refusal → ℕ → ℕ → ℕ → Bool
-refusedBy why mode x y = applies why (widthBy mode) (isSet 1 mode) x y
-
--- the rows of a divide: its mode, its operands, then the three reasons
-abbrev pub rowsOf : ℕ → ℕ → ℕ → ℕ
-rowsOf mode x y =
-    cond (ltb 0x07 mode) 4 (cond (large mode x y) 5 (byReason (refusedBy ZeroDivisor mode x y) (refusedBy TooWide mode x y) (refusedBy SignRange mode x y)))
+use Rattle.answer.proofs.Table.{byReason}
+use Rattle.answer.proofs.DivideRows.{large, refusedBy, rowsOf, some-width, divide-by-rows}
 
 module _ (mode x y : ℕ) where
-  -- they are its status, with any flags inside 08D5
-  pub divide-by-rows : (f : ℕ) → bitAnd f 0x08D5 ≡ f → statusOf 0x11 mode f x y ≡ rowsOf mode x y
-  divide-by-rows f hf = by-table (raw 0x11 mode f x y) ∙ rw (eq-eqb (bitAnd f 0x08D5) f hf) (by (ltb 0x07 mode) (large mode x y) _)
-    where
-      by : (m l : Bool) (k : ℕ) → cond (m || false || false) 4 (cond (l || false) 5 k) ≡ cond m 4 (cond l 5 k)
-      by true l k = refl
-      by false true k = refl
-      by false false k = refl
-
   pub told-by-rows : wouldTrap mode x y ≡ trapBy (rowsOf mode x y)
   unfolding wouldTrap
-  told-by-rows = ap trapBy (divide-by-rows 0 refl)
+  told-by-rows = ap trapBy (divide-by-rows mode x y 0 refl)
 
   -- a mode that no divide has, whatever the operands
   pub told-mode : 0x07 < mode → wouldTrap mode x y ≡ trapTold 4 1

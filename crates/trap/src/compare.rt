@@ -16,7 +16,7 @@ fn power(bits: u32) -> u64
 }
 
 // The magnitude of a signed number.
-fn magnitude_of(bits: u32, number: u64) -> u64
+pub fn magnitude_of(bits: u32, number: u64) -> u64
     requires { ⌜ (number < 2 ^ bits) × (8 ≤ bits) × (bits ≤ 32) ⌝ }
     ensures { λ r. ⌜ r ≡ magnitude true bits number ⌝ }
 {

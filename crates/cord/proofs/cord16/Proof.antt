@@ -1,17 +1,17 @@
 -- `cord::cord16` meets its contract: the laws of the loop at the width 16. Assumes nothing.
 use mathlib.Core.Path.{_≡_, ap}
-use Prim.Native.Nat.{ℕ, _+_, _*_, _%_, _<_}
+use Prim.Native.Nat.{ℕ, _+_, _*_, _%_, _≤_, _<_}
 use native.Mathlib.Omega.{arith}
 use lib.Bits.{bitAnd, and-mask}
 use Rattle.flags.proofs.Masks.{mask-top-clear}
 use Rattle.cord.specs.Views.{round16}
 use Rattle.cord.proofs.CordLaws.{refuses}
-use Rattle.cord.proofs.Turning.{Turning, starts, may-turn, few-turned, turns, ends}
+use Rattle.cord.proofs.Turning.{Turning, starts, may-turn, turns, ends}
 use Rattle.cord.proofs.cord16.Statement.{statement}
 use Rattle.cord.proofs.cord16.Tie as tie
 
 abbrev Inv-loop : tie.InvT-loop
-Inv-loop tmpa tmpb tmpc steps at₀ internal-counter₀ at internal-counter = Turning 16 tmpa tmpb tmpc steps (round16 at) internal-counter
+Inv-loop tmpa tmpb tmpc steps at₀ internal-counter₀ at internal-counter = Turning 16 tmpa tmpb tmpc (round16 at) internal-counter
 
 abbrev μ-loop : tie.MeasureT-loop
 μ-loop tmpa tmpb tmpc steps at₀ internal-counter₀ at internal-counter = internal-counter
@@ -20,30 +20,30 @@ returns : tie.Need-returns Inv-loop μ-loop
 returns c = let a = c .before .args in refuses 16 (a .tmpb) (a .tmpa) (a .tmpc) (a .steps) (omega arith) (c .if1 .taken)
 
 loop-holds : tie.Need-loop-holds Inv-loop μ-loop
-loop-holds c = let a = c .before .args in starts 16 (a .tmpa) (a .tmpb) (a .tmpc) (a .steps) (omega arith) (omega arith) (c .if1 .left) (omega arith) (omega arith)
-
-few-at : (c : tie.After-cord-round16 Inv-loop μ-loop) → c .cord-round16 .result .steps < 300
-few-at c = omega (arith, few-turned (c .before .loop .inv) (c .cord-round16 .ensures), c .before .before .before .pre)
+loop-holds c = let a = c .before .args in starts 16 (a .tmpa) (a .tmpb) (a .tmpc) (omega arith) (c .if1 .left) (omega arith) (omega arith)
 
 loop-again : tie.Need-loop-again Inv-loop μ-loop
-loop-again c = let turn = c .before .before in turns (turn .before .loop .inv) (turn .cord-round16 .ensures) (omega arith) (omega arith)
+loop-again c = turns (c .before .before .loop .inv) (c .cord-round16 .ensures) (omega arith)
 
--- what a quotient adds by being odd
-odd : (x : ℕ) → bitAnd x 1 ≡ x % 2
-odd x = and-mask x 1
+-- few ones, and few steps before them
+few-at : (c : tie.After-loop Inv-loop μ-loop) → (c .before .loop .at .«no_borrow» ≤ 16) × (c .before .before .before .args .steps < 100)
+few-at c = (omega (arith, may-turn (c .before .loop .inv)), c .before .before .before .pre)
+
+-- whether the quotient is odd
+odd-at : (c : tie.After-loop Inv-loop μ-loop) → bitAnd (c .before .loop .at .tmpc) 1 ≡ c .before .loop .at .tmpc % 2
+odd-at c = and-mask (c .before .loop .at .tmpc) 1
 
 returns-2 : tie.Need-returns-2 Inv-loop μ-loop
 returns-2 c =
-    let turn = c .before .before .before .before in
-    let r = turn .cord-round16 .result in
-    ends (turn .before .loop .inv) (turn .cord-round16 .ensures) (omega arith) (mask-top-clear 16 (r .tmpc) (omega arith) (omega arith)) (ap (λ (x : ℕ). r .steps + 4 + 2 * x) (odd (r .tmpc)))
+    let at-end = c .before .before .before in
+    let r = at-end .before .loop .at in
+    let steps = at-end .before .before .before .args .steps in
+    ends (at-end .before .loop .inv) steps (at-end .loop-test .left) (mask-top-clear 16 (r .tmpc) (omega arith) (omega arith))
+    (ap (λ (x : ℕ). steps + 6 + 8 * 16 + r .«no_borrow» + 2 * x) (odd-at at-end))
 
 pub cord16-spec : {M : Type 1} → statement M
 cord16-spec =
     tie.close
-    (tie.spec Inv-loop μ-loop (λ c. omega arith) returns (λ c. omega arith) loop-holds (λ c κs. omega (arith, may-turn (c .loop .inv))) (λ c. omega arith)
-    (λ c. omega (arith, few-at (c .before .before))) (λ c. omega arith) loop-again
-    (λ c. omega (arith, few-at (c .before .before .before)))
-    (λ c. omega (arith, odd (c .before .before .before .before .cord-round16 .result .tmpc)))
-    (λ c. omega (arith, odd (c .before .before .before .before .cord-round16 .result .tmpc), few-at (c .before .before .before .before)))
-    returns-2)
+    (tie.spec Inv-loop μ-loop (λ c. omega arith) returns loop-holds (λ c κs. omega (arith, may-turn (c .before .loop .inv))) (λ c. omega arith) (λ c. omega arith) loop-again
+    (λ c. omega (arith, few-at (c .before))) (λ c. omega arith) (λ c. omega arith) (λ c. omega (arith, few-at (c .before))) (λ c. omega (arith, few-at (c .before .before)))
+    (λ c. omega (arith, odd-at (c .before .before .before))) (λ c. omega (arith, odd-at (c .before .before .before), few-at (c .before .before .before))) returns-2)

@@ -20,12 +20,11 @@ returns-2 c =
 
 returns-3 : tie.Need-returns-3
 returns-3 c =
-    let two = c .before .before .before .before in
+    let two = c .before .before .before in
     by-third 16 _ (round16 (two .before .before .args .from)) (omega arith) (omega arith) (omega arith) (omega arith) (two .before .left16 .ensures) (two .left162 .ensures)
-    (c .before .before .before .if1 .left) (omega arith)
+    (c .before .before .if1 .left) (omega arith)
 
 pub cord-round16-spec : {M : Type 1} → statement M
 cord-round16-spec =
     tie.close
-    (tie.spec (λ c κs. search needs) (λ c κs. search needs) (λ c κs. search needs) (λ c. search needs) returns (λ c. search needs) (λ c. search needs) returns-2
-    returns-3)
+    (tie.spec (λ c κs. search needs) (λ c κs. search needs) (λ c κs. search needs) (λ c. search needs) returns (λ c. search needs) returns-2 returns-3)

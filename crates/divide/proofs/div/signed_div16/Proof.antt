@@ -6,7 +6,7 @@ use borrow.Author.Needs.{needs}
 use Rattle.negate.specs.Views.{negate16}
 use Rattle.cord.specs.Cord as Cord
 use Rattle.cord.specs.Views.{results16, cordOutcome16, cordAnswer16}
-use Rattle.divide.specs.Views.{post16Answer}
+use Rattle.idiv.specs.Views.{post16Answer}
 use Rattle.divide.proofs.AfterPre.{AfterPre, onward, few-before, goes-on, refuses, few-after, finishes}
 use Rattle.divide.proofs.div.signed_div16.Statement.{statement}
 use Rattle.divide.proofs.div.signed_div16.Tie as tie

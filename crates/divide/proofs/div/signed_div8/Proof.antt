@@ -6,7 +6,7 @@ use borrow.Author.Needs.{needs}
 use Rattle.negate.specs.Views.{negate8}
 use Rattle.cord.specs.Cord as Cord
 use Rattle.cord.specs.Views.{results8, cordOutcome8, cordAnswer8}
-use Rattle.divide.specs.Views.{post8Answer}
+use Rattle.idiv.specs.Views.{post8Answer}
 use Rattle.divide.proofs.AfterPre.{AfterPre, onward, few-before, goes-on, refuses, few-after, finishes}
 use Rattle.divide.proofs.div.signed_div8.Statement.{statement}
 use Rattle.divide.proofs.div.signed_div8.Tie as tie

@@ -1,0 +1,2 @@
+pub mod Idiv
+pub mod Views

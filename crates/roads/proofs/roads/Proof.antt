@@ -1,0 +1,42 @@
+-- `roads::roads` meets its contract: the rows of the table for a divide, by the width that its mode names. Assumes nothing.
+use mathlib.Core.Path.{sym, _∙_}
+use native.Mathlib.Omega.{arith}
+use borrow.Author.Needs.{needs}
+use Rattle.roads.proofs.Rows.{told-mode, told-word, told-byte-large, told-byte}
+use Rattle.roads.proofs.roads.Statement.{statement}
+use Rattle.roads.proofs.roads.Tie as tie
+
+mode : tie.Need-returns
+mode c =
+    let at = c .before .before in
+    let a = at .before .args in
+    c .none .ensures ∙ sym (told-mode (a .mode) (a .dividend) (a .divisor) (omega (arith, at .if1 .taken)))
+
+word : tie.Need-returns-2
+word c =
+    let at = c .before .before in
+    let first = at .before in
+    let a = first .before .args in
+    c .told16 .ensures ∙ told-word (a .mode) (a .dividend) (a .divisor) (omega (arith, first .if1 .left)) (at .if2 .taken) (omega arith) (omega arith)
+
+large : tie.Need-returns-3
+large c =
+    let at = c .before .before in
+    let narrow = at .before in
+    let first = narrow .before in
+    let a = first .before .args in
+    c .none2 .ensures ∙ told-byte-large (a .mode) (a .dividend) (a .divisor) (omega (arith, first .if1 .left)) (narrow .if2 .left) (at .if3 .taken)
+
+byte : tie.Need-returns-4
+byte c =
+    let at = c .before .before in
+    let narrow = at .before in
+    let first = narrow .before in
+    let a = first .before .args in
+    c .told8 .ensures ∙ told-byte (a .mode) (a .dividend) (a .divisor) (omega (arith, first .if1 .left)) (narrow .if2 .left) (at .if3 .left)
+
+pub roads-spec : {M : Type 1} → statement M
+roads-spec =
+    tie.close
+    (tie.spec (λ c κs. search needs) mode (λ c κs. search needs) word (λ c. search needs) (λ c. search needs) (λ c κs. search needs) large (λ c. search needs) (λ c. search needs)
+    (λ c κs. search needs) byte)
