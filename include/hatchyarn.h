@@ -164,6 +164,48 @@ uint8_t hatchyarn_ask(uint8_t op, uint8_t mode, uint16_t flags, uint32_t x, uint
  */
 uint8_t hatchyarn_would_trap(uint8_t mode, uint32_t dividend, uint16_t divisor, uint8_t *trap);
 
+/*
+ * Which road each one of a quotient came by, for whoever has to explain why two divides take different steps. The
+ * chip divides bit by bit, and takes both operands without their signs where the divide is signed. N is the
+ * divisor's width, 8 or 16, and there are N rounds. Each shifts what is left so far to the left by one, takes in the
+ * dividend's next bit, and goes one of three roads. What has been shifted
+ *
+ *   is 2^N or more                  a bit is shifted out: the quotient's bit is 1, and no compare is made
+ *   else, is at least the divisor   no borrow: the quotient's bit is 1, and the round takes one step more
+ *   else                            borrow: the quotient's bit is 0
+ *
+ * roads[0] becomes how many ones came by a bit shifted out, and roads[1] how many by no borrow. Together they are
+ * the ones that the quotient, without its sign, has in binary. roads[0] is always 0 where the divisor, without
+ * its sign if the divide is signed, is at most 2^(N-1), and so in every signed divide. The steps of a divide that is
+ * done, those that hatchyarn_ask gives, are
+ *
+ *   13 + 8N + roads[1]           unsigned; 2 more if the quotient is odd;
+ *   25 + 8N + roads[1] + signs   signed; 2 more if the quotient is odd. Signs are 7 for a dividend below 0, else
+ *                                3, and 5 more for a divisor below 0, else 6.
+ *
+ * So at 8 bits, unsigned, 00FF / FF takes 77 + 1 + 2 = 80 steps, and 0100 / C8, whose one came by a bit shifted out,
+ * 77 + 0 + 2 = 79.
+ *
+ * The mode is the sum of bits of hatchyarn_mode. HATCHYARN_MODE_REP may be among them, and changes nothing. Flags
+ * are not asked for, since a divide does not see them.
+ *
+ * Returns the first of these that applies, which is what hatchyarn_ask, given HATCHYARN_OP_DIVIDE, the same mode
+ * and operands and any sum of bits of hatchyarn_flag, returns:
+ *
+ *   HATCHYARN_BAD_MODE       the mode has a bit above 0x04. Both are 0
+ *   HATCHYARN_TOO_LARGE      at 8 bits, the dividend is over 0xFFFF or the divisor over 0xFF; at 16 bits neither
+ *                            can be. Both are 0
+ *   HATCHYARN_ZERO_DIVISOR   the divide is refused, as with the next two. Both are 0
+ *   HATCHYARN_TOO_WIDE       Both are 0
+ *   HATCHYARN_SIGN_RANGE     Both are 0
+ *   HATCHYARN_DONE           else. Both are counted
+ *
+ * roads[0] and roads[1] are always written. A quotient of 0 has no ones, so that 0 and 0 alone do not tell of a
+ * refusal: look at what is returned. `roads` must always lead to two numbers. examples/roads.c, in the sources, adds
+ * up the steps of divides in words.
+ */
+uint8_t hatchyarn_roads(uint8_t mode, uint32_t dividend, uint16_t divisor, uint16_t roads[2]);
+
 /* A status that hatchyarn_registers alone gives. No request gets it. */
 enum hatchyarn_registers_status {
     HATCHYARN_TOTAL_FULL = 10 /* the total would pass 4,294,967,295, and nothing was changed */

@@ -210,6 +210,86 @@ static void would_trap(void)
         }
 }
 
+/* Divides, each with the ones of its quotient by a bit shifted out and by no borrow, and each refusal. */
+static const struct road {
+    const char *words;
+    uint32_t dividend;
+    uint16_t divisor;
+    uint8_t mode, status;
+    uint16_t shifted_out, no_borrow;
+} by_roads[] = {
+    {"the roads of 00FF / FF", 0x00FF, 0xFF, 0x00, HATCHYARN_DONE, 0, 1},
+    {"the roads of 0100 / C8", 0x0100, 0xC8, 0x00, HATCHYARN_DONE, 1, 0},
+    {"the roads of C7FF / C8", 0xC7FF, 0xC8, 0x00, HATCHYARN_DONE, 8, 0},
+    {"the roads of 7FFF / 80", 0x7FFF, 0x80, 0x00, HATCHYARN_DONE, 0, 8},
+    {"the roads of 1234 / 9A", 0x1234, 0x9A, 0x00, HATCHYARN_DONE, 2, 2},
+    {"the roads of 0000 / 01", 0x0000, 0x01, 0x00, HATCHYARN_DONE, 0, 0},
+    {"the roads of 0000FFFF / FFFF", 0xFFFF, 0xFFFF, 0x01, HATCHYARN_DONE, 0, 1},
+    {"the roads of 00010000 / C800", 0x10000, 0xC800, 0x01, HATCHYARN_DONE, 1, 0},
+    {"the roads of 12345678 / ABCD", 0x12345678, 0xABCD, 0x01, HATCHYARN_DONE, 2, 3},
+    {"the roads of FFFEFFFF / FFFF", 0xFFFEFFFF, 0xFFFF, 0x01, HATCHYARN_DONE, 16, 0},
+    {"the roads of signed FF81 / 01", 0xFF81, 0x01, 0x02, HATCHYARN_DONE, 0, 7},
+    {"the roads of signed FFF9 / 02", 0xFFF9, 0x02, 0x02, HATCHYARN_DONE, 0, 2},
+    {"the roads of signed 3FFF / 80", 0x3FFF, 0x80, 0x02, HATCHYARN_DONE, 0, 7},
+    {"the roads of signed FFFF8001 / 0001", 0xFFFF8001, 1, 0x03, HATCHYARN_DONE, 0, 15},
+
+    {"the roads of 0007 / 00", 0x0007, 0, 0x00, HATCHYARN_ZERO_DIVISOR, 0, 0},
+    {"the roads of signed 80000000 / 0000", 0x80000000, 0, 0x03, HATCHYARN_ZERO_DIVISOR, 0, 0},
+    {"the roads of C800 / C8", 0xC800, 0xC8, 0x00, HATCHYARN_TOO_WIDE, 0, 0},
+    {"the roads of signed 8000 / 7F", 0x8000, 0x7F, 0x02, HATCHYARN_TOO_WIDE, 0, 0},
+    {"the roads of 00020000 / 0002", 0x20000, 2, 0x01, HATCHYARN_TOO_WIDE, 0, 0},
+    {"the roads of signed FF80 / 01", 0xFF80, 0x01, 0x02, HATCHYARN_SIGN_RANGE, 0, 0},
+    {"the roads of signed 00008000 / 0001", 0x8000, 1, 0x03, HATCHYARN_SIGN_RANGE, 0, 0},
+
+    /* at 8 bits too large, though the bits that there is room for would be divided */
+    {"the roads of 00010100 / C8", 0x10100, 0xC8, 0x00, HATCHYARN_TOO_LARGE, 0, 0},
+    {"the roads of signed 00FF / 01FF", 0x00FF, 0x01FF, 0x02, HATCHYARN_TOO_LARGE, 0, 0},
+    {"the roads of 00010100 / 00", 0x10100, 0, 0x00, HATCHYARN_TOO_LARGE, 0, 0},
+    {"the same roads at 16 bits", 0x10100, 0x01FF, 0x01, HATCHYARN_DONE, 0, 1},
+
+    {"the roads of mode 08", 0x00FF, 0xFF, 0x08, HATCHYARN_BAD_MODE, 0, 0},
+    {"the roads of mode 81", 0x00FF, 0xFF, 0x81, HATCHYARN_BAD_MODE, 0, 0},
+    {"the roads of mode 08, and too large", 0x10100, 0x01FF, 0x08, HATCHYARN_BAD_MODE, 0, 0},
+    {"the roads of mode FA, and a divisor of 0", 0x0007, 0, 0xFA, HATCHYARN_BAD_MODE, 0, 0},
+};
+enum { ROADS = sizeof by_roads / sizeof *by_roads };
+
+/* Both tallies are written whatever stood there, the words around them are as they were, and REP changes nothing. */
+static void roads(void)
+{
+    static const uint16_t before[] = {0x0000, 0x0001, 0x0007, 0x00FF, 0x0100, 0x8000, 0xFFFF};
+
+    for (const struct road *each = by_roads; each < by_roads + ROADS; each++)
+        for (size_t i = 0; i < 2 * sizeof before / sizeof *before; i++) {
+            const uint8_t rep = i % 2 == 0 ? 0 : HATCHYARN_MODE_REP;
+            const uint16_t stood = before[i / 2];
+            uint16_t lent[] = {0xA5A5, 0xA5A5, stood, (uint16_t)~stood, 0xA5A5, 0xA5A5};
+            struct hatchyarn_answer a;
+
+            expect(hatchyarn_roads(each->mode ^ rep, each->dividend, each->divisor, &lent[2]) == each->status
+                       && lent[2] == each->shifted_out && lent[3] == each->no_borrow, each->words);
+            expect(lent[0] == 0xA5A5 && lent[1] == 0xA5A5 && lent[4] == 0xA5A5 && lent[5] == 0xA5A5, each->words);
+            expect(hatchyarn_ask(HATCHYARN_OP_DIVIDE, each->mode ^ rep, i % 3 == 0 ? 0x08D5 : 0, each->dividend,
+                                 each->divisor, &a) == each->status, each->words);
+        }
+}
+
+/* The two divides that take different steps, though both quotients are 1: what differs is the ones by no borrow. */
+static void explained(void)
+{
+    static const uint16_t two[][3] = {{0x00FF, 0xFF, 80}, {0x0100, 0xC8, 79}};
+
+    for (size_t i = 0; i < 2; i++) {
+        struct hatchyarn_answer a;
+        uint16_t lent[2];
+
+        expect(hatchyarn_ask(HATCHYARN_OP_DIVIDE, HATCHYARN_MODE_BYTE, 0, two[i][0], two[i][1], &a) == HATCHYARN_DONE
+                   && a.r == 1 && a.steps == two[i][2], "a divide whose quotient is 1");
+        expect(hatchyarn_roads(HATCHYARN_MODE_BYTE, two[i][0], two[i][1], lent) == HATCHYARN_DONE
+                   && lent[0] + lent[1] == 1 && a.steps == 77 + lent[1] + 2, "why it takes its steps");
+    }
+}
+
 /* Operations over a register record: what is told of each, and the record before it and after. */
 static const struct operation {
     const char *words;
@@ -630,6 +710,8 @@ int main(void)
     refusals();
     closed();
     would_trap();
+    roads();
+    explained();
     registers();
     a_session();
     packed_sums();

@@ -176,6 +176,8 @@ impl fmt::Display for DivideRefusal {
     }
 }
 
+impl Error for DivideRefusal {}
+
 impl Numbers {
     /// The answer, or which refusal it is.
     ///

@@ -42,6 +42,19 @@
 //! assert!(Operation::would_trap_each8(&keys, 0x01, true).eq([false, true, false]));
 //! ```
 //!
+//! A tester who asks why two divides with one quotient take different steps has the answer from [`Roads`]: how many
+//! ones of the quotient came by a bit shifted out, and how many by no borrow. Each of the latter takes one step more.
+//! 00FF / FF takes 80 steps, and 0100 / C8 takes 79:
+//!
+//! ```
+//! use hatchyarn::Roads;
+//!
+//! let told = |dividend, divisor| Roads::of_divide8(dividend, divisor, false).map(|roads| roads.to_string());
+//! assert_eq!(told(0x00FF, 0xFF)?, "0 ones by a bit shifted out, 1 by no borrow");
+//! assert_eq!(told(0x0100, 0xC8)?, "1 one by a bit shifted out, 0 by no borrow");
+//! # Ok::<(), hatchyarn::DivideRefusal>(())
+//! ```
+//!
 //! A session works over [`registers::Registers`], which remember their steps: AX, DX, the flags, and a total that its
 //! log shows. A refused divide leaves AX and DX as they were, stores the flags, and its steps go into the total:
 //!
@@ -58,8 +71,8 @@
 //!
 //! Requests that come as text are answered line by line ([`answer_line`]) or as a whole
 //! ([`answer_all`]). Requests that come as numbers that nobody has checked go to [`raw::ask`], or
-//! to [`raw::would_trap`] where nothing else has to be known of a divide, or to
-//! [`raw::registers`](raw::registers()).
+//! to [`raw::would_trap`] where nothing else has to be known of a divide, or to [`raw::roads`] where
+//! its steps are to be explained, or to [`raw::registers`](raw::registers()).
 //!
 //! Numbers of packed decimal digits, as loan cards hold them, are added and subtracted by
 //! [`packed::add`] and [`packed::subtract`].
@@ -76,9 +89,11 @@ pub mod packed;
 pub mod raw;
 pub mod record;
 pub mod registers;
+mod roads;
 mod trap;
 
 pub use answer::{Answer, DivideRefusal, Refusal};
 pub use flags::Flags;
 pub use lines::{answer_all, answer_line, ANSWER_BYTES};
 pub use operation::{Adjust, Operation, Shift, Sum};
+pub use roads::Roads;

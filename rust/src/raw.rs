@@ -1,10 +1,11 @@
-//! The nine functions as the static library has them.
+//! The ten functions as the static library has them.
 //!
 //! They are safe to call with anything: nothing is required of a caller, and every request gets an
 //! answer. Use them for requests that come from elsewhere as numbers or as text; a program that
-//! writes its own requests is better served by [`Operation`](crate::Operation), one that keeps a log of
-//! steps by [`registers`](crate::registers), one that adds packed decimal numbers by
-//! [`packed`](crate::packed), and one that reads answer lines back by [`record`](crate::record).
+//! writes its own requests is better served by [`Operation`](crate::Operation), one that explains the steps of
+//! its divides by [`Roads`](crate::Roads), one that keeps a log of steps by [`registers`](crate::registers), one
+//! that adds packed decimal numbers by [`packed`](crate::packed), and one that reads answer lines back by
+//! [`record`](crate::record).
 
 /// What [`ask`] answers.
 #[derive(Clone, Copy, Debug, PartialEq, Eq, Hash)]
@@ -26,6 +27,19 @@ pub struct WouldTrap {
     pub status: u8,
     /// Whether the divide would trap; true after 4 and 5.
     pub trap: bool,
+}
+
+/// What [`roads`] answers. Both tallies are 0 after 4, 5, 6, 8 and 9; a quotient of 0 has no ones either, so
+/// that the status alone tells of a refusal.
+#[derive(Clone, Copy, Debug, PartialEq, Eq, Hash)]
+pub struct Tallies {
+    /// 0 where the divide is done; 4 where the mode is wrong, or else 5 where an operand is too large; 6, 8 or 9
+    /// where the chip refuses the divide.
+    pub status: u8,
+    /// How many ones of the quotient came by a bit shifted out.
+    pub shifted_out: u16,
+    /// How many came by no borrow.
+    pub no_borrow: u16,
 }
 
 /// What [`registers`](registers()) works over. A fresh one has a total of 0, and any other numbers. Between two
@@ -63,6 +77,7 @@ mod linked {
     extern "C" {
         pub fn hatchyarn_ask(op: u8, mode: u8, flags: u16, x: u32, y: u16, answer: *mut u16) -> u8;
         pub fn hatchyarn_would_trap(mode: u8, dividend: u32, divisor: u16, trap: *mut u8) -> u8;
+        pub fn hatchyarn_roads(mode: u8, dividend: u32, divisor: u16, roads: *mut u16) -> u8;
         pub fn hatchyarn_registers(
             op: u8,
             mode: u8,
@@ -141,6 +156,25 @@ pub fn would_trap(mode: u8, dividend: u32, divisor: u16) -> WouldTrap {
     let status = unsafe { linked::hatchyarn_would_trap(mode, dividend, divisor, &mut trap) };
     let trap = trap != 0;
     WouldTrap { status, trap }
+}
+
+/// Which road each one of a divide's quotient came by: how many by a bit shifted out, and how many by no borrow.
+/// [`Roads`](crate::Roads) says what that means. No flags are taken, since a divide does not see them. REP, `0x04`
+/// of the mode, changes nothing.
+///
+/// The status is 4 where the mode has a bit above `0x04`; else 5 where at 8 bits the dividend is over `0xFFFF`
+/// or the divisor over `0xFF`; else 6, 8 or 9 where the chip refuses the divide; else 0. It is that of [`ask`], given
+/// op `0x11`, the same numbers and any [`Flags`](crate::Flags). After 4, 5, 6, 8 and 9 both tallies are 0.
+pub fn roads(mode: u8, dividend: u32, divisor: u16) -> Tallies {
+    let mut roads = [0; 2];
+    // SAFETY: the function writes two numbers, and there is room for two.
+    let status = unsafe { linked::hatchyarn_roads(mode, dividend, divisor, roads.as_mut_ptr()) };
+    let [shifted_out, no_borrow] = roads;
+    Tallies {
+        status,
+        shifted_out,
+        no_borrow,
+    }
 }
 
 /// Does an operation over registers that remember their steps. It reads X from them and is given Y; what is
