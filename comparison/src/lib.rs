@@ -18,6 +18,7 @@ pub mod packed;
 pub mod plan;
 pub mod refused_flags;
 pub mod registers;
+pub mod roads;
 pub mod section;
 pub mod sides;
 pub mod tally;

@@ -5,6 +5,7 @@ use crate::form::Form;
 use crate::lines::sections as lines;
 use crate::packed::sections as packed;
 use crate::registers::{refusals, sections as registers, sequences};
+use crate::roads::sections as roads;
 use crate::section::Section;
 use crate::trap::sections as trap;
 use crate::{bytes, judged, refused, words};
@@ -55,7 +56,7 @@ fn over_bytes(form: Form) -> Vec<Section> {
     ]
 }
 
-/// The functions that are lent numbers: what would trap, and those over a register record.
+/// The functions that are lent numbers: what would trap, those over a register record, and the roads.
 fn over_numbers(form: Form) -> Vec<Section> {
     vec![
         trap::bytes(form),
@@ -76,5 +77,13 @@ fn over_numbers(form: Form) -> Vec<Section> {
         refusals::faults(form),
         sequences::fresh(form),
         sequences::into_the_end(form),
+        roads::bytes(form),
+        roads::words(form),
+        roads::borders(form),
+        roads::turns(form),
+        roads::limits(form),
+        roads::equal_quotients(form),
+        roads::martypc(form),
+        roads::befores(form),
     ]
 }

@@ -6,6 +6,7 @@ use crate::divides::Divides;
 use crate::packed::loan;
 use crate::refused_flags::Ruled;
 use crate::registers;
+use crate::roads;
 use crate::sides::{self, digits, fields_apart, names_apart, Numbers, Side};
 use crate::trap;
 
@@ -27,6 +28,8 @@ pub struct Tally {
     pub trap: trap::loan::Side,
     /// In place of the port's function over a register record.
     pub registers: registers::loan::Side,
+    /// In place of the port's function that counts the roads.
+    pub roads: roads::loan::Side,
     pub compared: u64,
     pub divides: Divides,
     /// How many answers differ. One is enough to fail.
@@ -42,6 +45,7 @@ impl Tally {
             answers: answers::loan::ours,
             trap: trap::loan::ours,
             registers: registers::loan::ours,
+            roads: roads::loan::ours,
             compared: 0,
             divides: Divides::default(),
             differing: 0,
@@ -69,6 +73,11 @@ impl Tally {
         Tally { registers, ..self }
     }
 
+    /// The same, with another side for the roads than the port.
+    pub fn with_roads(self, roads: roads::loan::Side) -> Tally {
+        Tally { roads, ..self }
+    }
+
     /// One that has seen nothing, with the same sides in place of the port.
     pub fn fresh(&self) -> Tally {
         Tally::new(self.ours)
@@ -76,6 +85,7 @@ impl Tally {
             .with_answers(self.answers)
             .with_trap(self.trap)
             .with_registers(self.registers)
+            .with_roads(self.roads)
     }
 
     /// Asks both sides, and holds the port to MartyPC.

@@ -12,7 +12,8 @@ use comparison::packed::loan::{self, Loan};
 use comparison::plan;
 use comparison::refused_flags::{Divide, Ruled};
 use comparison::registers;
-use comparison::sides::{fields_apart, ours, theirs, Numbers, Side};
+use comparison::roads;
+use comparison::sides::{fields_apart, ours, refused, theirs, Numbers, Side};
 use comparison::tally::{Tally, MOST_SHOWN};
 use comparison::trap;
 use hatchyarn::raw::{self, Ran};
@@ -665,5 +666,218 @@ fn a_wrong_part_of_a_call_over_a_record_is_found_and_named() {
         }
         let tally = held_over(registers::loan::ours, over);
         assert_eq!((tally.compared, tally.differing), (1, 0));
+    }
+}
+
+fn with_roads(side: roads::loan::Side) -> Tally {
+    Tally::new(ours).with_roads(side)
+}
+
+/// Has each wrong rule stand in place of the port in the sections that have to find it.
+fn find_roads(rules: &[wrong::roads::Rule]) {
+    for (name, side, sections) in rules {
+        for section in *sections {
+            let tally = run(section, with_roads(*side));
+            assert!(tally.differing > 0, "{name}, {section}");
+        }
+    }
+}
+
+#[test]
+fn roads_counted_wrongly_are_found() {
+    find_roads(&wrong::roads::counted::RULES);
+}
+
+#[test]
+fn roads_refused_wrongly_are_found() {
+    find_roads(&wrong::roads::refused::RULES);
+}
+
+#[test]
+fn roads_written_wrongly_are_found() {
+    find_roads(&wrong::roads::written::RULES);
+    for section in wrong::roads::SECTIONS {
+        assert_eq!(run(section, Tally::new(ours)).differing, 0, "{section}");
+    }
+}
+
+/// The port's full divide, which has something of an accepted one wrong while its roads are told rightly.
+const WRONG_DIVIDES: [(&str, Side); 3] = [
+    (
+        "the full divide's status, the full divide's ones",
+        |asked| but_accepted_divide(asked, |given| *given = refused(6)),
+    ),
+    ("the full divide's ones", |asked| {
+        but_accepted_divide(asked, |given| given.r ^= 0x02)
+    }),
+    ("the full divide's steps", |asked| {
+        but_accepted_divide(asked, |given| given.steps += 1)
+    }),
+];
+
+fn but_accepted_divide(asked: Asked, wrong: fn(&mut Numbers)) -> Numbers {
+    let mut given = ours(asked);
+    if (asked.op, given.status) == (0x11, 0) {
+        wrong(&mut given);
+    }
+    given
+}
+
+/// 0100 / C8, and the same with REP; 8 bits, and 16.
+#[test]
+fn a_full_divide_that_has_other_roads_is_found() {
+    for (parts, side) in WRONG_DIVIDES {
+        for (mode, dividend, divisor) in [
+            (0x00, 0x0100, 0x00C8),
+            (0x04, 0x0100, 0x00C8),
+            (0x01, 0x0001_0000, 0xC800),
+        ] {
+            let mut tally = Tally::new(side);
+            let call = trap::call::Call {
+                mode,
+                dividend,
+                divisor,
+            };
+            roads::held::hold(&mut tally, &mut Draw::new(1), call);
+            assert_told(&tally, parts);
+        }
+    }
+    for section in wrong::roads::ADMITTED {
+        let (_, side) = WRONG_DIVIDES[2];
+        let tally = run(section, Tally::new(side));
+        assert!(tally.differing > 10_000, "{section}");
+    }
+}
+
+/// One difference, in these parts.
+fn assert_told(tally: &Tally, parts: &str) {
+    let [shown] = &tally.shown[..] else {
+        panic!("{:?}", tally.shown)
+    };
+    assert!(shown.ends_with(&format!(": {parts} differ")), "{shown}");
+}
+
+/// Steps that count a one by a bit shifted out as they count one by no borrow, so that equal quotients take equal
+/// steps whatever their roads are; and steps that tell more of the divisor than the roads do.
+const WRONG_STEPS: [Side; 2] = [
+    |asked| {
+        let roads = roads::reference::answer(trap::call::Call::from(asked));
+        with_more_steps(asked, roads.shifted_out)
+    },
+    |asked| with_more_steps(asked, asked.y & 1),
+];
+
+fn with_more_steps(asked: Asked, more: u16) -> Numbers {
+    let given = ours(asked);
+    Numbers {
+        steps: given.steps + more,
+        ..given
+    }
+}
+
+#[test]
+fn steps_of_equal_quotients_that_do_not_tell_the_roads_are_found() {
+    for side in WRONG_STEPS {
+        let tally = run(wrong::roads::QUOTIENTS, Tally::new(side));
+        assert!(tally.differing > 10_000);
+        let told = ": steps and ones by a bit shifted out differ";
+        let is_told = |shown: &String| shown.ends_with(told);
+        assert!(tally.shown.iter().all(is_told), "{:?}", tally.shown);
+    }
+}
+
+/// Each part that a call alone shows among those of its quotient, and a port that has it wrong.
+const WRONG_PARTS_OF_QUOTIENTS: [(&str, roads::loan::Side); 3] = [
+    ("status", |call, loan| roads::loan::ours(call, loan) ^ 8),
+    (
+        "ones by a bit shifted out by a small divisor",
+        |call, loan| beside_roads(call, loan, |loan| loan.roads.swap(0, 1)),
+    ),
+    ("numbers beside", |call, loan| {
+        beside_roads(call, loan, |loan| loan.after[0] ^= 1)
+    }),
+];
+
+/// 7FFF / 80, the largest divisor by which no bit is ever shifted out.
+#[test]
+fn a_wrong_part_of_equal_quotients_is_found_and_named() {
+    let call = trap::call::Call {
+        mode: 0x00,
+        dividend: 0x7FFF,
+        divisor: 0x80,
+    };
+    for (part, side) in WRONG_PARTS_OF_QUOTIENTS {
+        let mut tally = with_roads(side);
+        roads::law::Law::default().hold(&mut tally, &mut Draw::new(1), call);
+        assert_told(&tally, part);
+    }
+}
+
+/// The port, but that something else of the loan is changed.
+fn beside_roads(
+    call: trap::call::Call,
+    loan: &mut roads::loan::Loan,
+    wrong: fn(&mut roads::loan::Loan),
+) -> u8 {
+    let status = roads::loan::ours(call, loan);
+    wrong(loan);
+    status
+}
+
+/// Each part of what comes of a call, what differs with it where the divide is accepted, and a port that has it
+/// wrong.
+const WRONG_PARTS_OF_ROADS: [(&str, &str, roads::loan::Side); 5] = [
+    ("status, the full divide's status", "", |call, loan| {
+        roads::loan::ours(call, loan) ^ 1
+    }),
+    (
+        "ones by a bit shifted out, the full divide's ones",
+        "",
+        |call, loan| beside_roads(call, loan, |loan| loan.roads[0] ^= 0x8000),
+    ),
+    (
+        "ones by no borrow, the full divide's ones",
+        ", the full divide's steps",
+        |call, loan| beside_roads(call, loan, |loan| loan.roads[1] ^= 1),
+    ),
+    ("numbers beside", "", |call, loan| {
+        beside_roads(call, loan, |loan| loan.before[7] ^= 1)
+    }),
+    ("numbers beside", "", |call, loan| {
+        beside_roads(call, loan, |loan| loan.after[0] ^= 0x8000)
+    }),
+];
+
+/// Mode, dividend and divisor of a divide that is accepted, and of one for each refusal.
+const ROADS_OF: [(u8, u32, u16); 6] = [
+    (0x00, 0x0100, 0x00C8),
+    (0x08, 0x0100, 0x00C8),
+    (0x00, 0x0100, 0x0100),
+    (0x00, 0x0100, 0x0000),
+    (0x00, 0x0100, 0x0001),
+    (0x02, 0x0080, 0x0001),
+];
+
+#[test]
+fn a_wrong_part_of_the_roads_is_found_and_named() {
+    for (place, (mode, dividend, divisor)) in ROADS_OF.into_iter().enumerate() {
+        let call = trap::call::Call {
+            mode,
+            dividend,
+            divisor,
+        };
+        for before in [[0, 0], [1, 0], [0xFFFF, 0x8000]] {
+            let held = |side| {
+                let mut tally = with_roads(side);
+                roads::held::hold_over(&mut tally, &mut Draw::new(1), before, call);
+                tally
+            };
+            for (parts, of_accepted, side) in WRONG_PARTS_OF_ROADS {
+                let more = if place == 0 { of_accepted } else { "" };
+                assert_told(&held(side), &format!("{parts}{more}"));
+            }
+            let tally = held(roads::loan::ours);
+            assert_eq!((tally.compared, tally.differing), (1, 0));
+        }
     }
 }

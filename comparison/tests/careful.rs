@@ -9,7 +9,7 @@ use comparison::packed::careful as packed;
 use comparison::packed::{loan, tabled};
 use comparison::sides::{ours, theirs};
 use comparison::tally::Tally;
-use comparison::{careful, filter, plan, registers, trap};
+use comparison::{careful, filter, plan, registers, roads, trap};
 use oracle::draw::Draw;
 use oracle::request::Operation;
 use oracle::{edges, malformed};
@@ -169,6 +169,21 @@ fn answers_by_value_put_back_are_as_in_the_reference() {
     assert_eq!(held.len(), 12);
     for held in held {
         assert!(held.compared > 100_000);
+        assert_eq!(held.differing, 0, "{:?}", held.shown);
+    }
+}
+
+/// Stands in place of the port in all sections of the roads.
+#[test]
+fn roads_by_a_plain_walk_are_as_in_the_reference() {
+    let sections = plan::sections(QUICK).into_iter();
+    let tally = Tally::new(ours);
+    let tally = tally.with_roads(|call, loan| loan.call(call, roads::careful::roads));
+    let of_roads = sections.filter(|section| section.name.starts_with("roads, "));
+    let held: Vec<Tally> = of_roads.map(|section| section.run(1, &tally)).collect();
+    assert_eq!(held.len(), 8);
+    for held in held {
+        assert!(held.compared > 50_000);
         assert_eq!(held.differing, 0, "{:?}", held.shown);
     }
 }

@@ -27,6 +27,22 @@ impl Drawn {
         }
     }
 
+    /// Divides that are all accepted.
+    pub fn accepted(mode: Mode) -> Drawn {
+        let operation = Operation::Divide(mode);
+        let accepted = |draw: &mut Draw| loop {
+            let request = draw.request(&[operation]);
+            if Refused::of(mode, request.x(), request.y()).is_none() {
+                return request;
+            }
+        };
+        Drawn {
+            operation,
+            why: None,
+            asked: inputs(operation, accepted),
+        }
+    }
+
     /// Divides that are all refused for one reason.
     pub fn refused(divide: RefusedDivide) -> Drawn {
         let operation = divide.operation();
@@ -45,6 +61,14 @@ impl Drawn {
             None => (name, bits),
         }
     }
+}
+
+/// The divides without REP, on which no more than a sign depends.
+pub fn divides() -> impl Iterator<Item = Mode> {
+    Operation::all().filter_map(|operation| match operation {
+        Operation::Divide(mode) if !mode.rep => Some(mode),
+        _ => None,
+    })
 }
 
 /// Drawn from the operation's own numbers, so that a row does not depend on those before it.

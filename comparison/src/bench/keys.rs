@@ -1,7 +1,7 @@
 //! Keys that are divided by a number, and what tells of each whether that would trap.
 
 use super::counts::USUAL;
-use super::drawn::{Drawn, INPUTS};
+use super::drawn::{divides, Drawn, INPUTS};
 use super::table::{self, Named, Row};
 use crate::asked::Asked;
 use crate::trap::call::{Answer, Call};
@@ -29,12 +29,7 @@ impl Keys {
     /// Of each divide without REP, which changes nothing: keys with divisors as divides are drawn, a page of
     /// keys by one divisor of which half would trap, and one of which all would.
     pub fn all() -> impl Iterator<Item = Keys> {
-        let mode = |operation| match operation {
-            Operation::Divide(mode) if !mode.rep => Some(mode),
-            _ => None,
-        };
-        let modes = Operation::all().filter_map(mode);
-        modes.flat_map(|mode| {
+        divides().flat_map(|mode| {
             let half = Keys::page(mode, "a page, half trap", |draw| draw.below(2) == 0);
             let all = Keys::page(mode, "a page, all trap", |_| true);
             [Keys::drawn(mode), half, all]
@@ -79,7 +74,9 @@ impl Keys {
         for &call in &self.calls {
             let [one, other] = [answer(call, &ours), answer(call, &theirs)];
             if one != other {
-                return Err(format!("{call}: {one:?} and the other's {other:?}"));
+                return Err(format!(
+                    "would trap, {call}: {one:?} and the other's {other:?}"
+                ));
             }
         }
         Ok(table::beside(

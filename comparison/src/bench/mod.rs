@@ -14,6 +14,7 @@ pub mod packed;
 pub mod programs;
 mod refused;
 pub mod registers;
+pub mod roads;
 mod rounds;
 mod table;
 pub mod trap;

@@ -1,5 +1,6 @@
 //! Refused divides, by the reason: one reason a row.
 
+use super::drawn::divides;
 use oracle::draw::Draw;
 use oracle::request::{Mode, Operation, Request, ALL_FLAGS};
 use oracle::Refused;
@@ -14,13 +15,9 @@ pub struct RefusedDivide {
 impl RefusedDivide {
     /// All that there are without REP, which no refusal depends on.
     pub fn all() -> impl Iterator<Item = RefusedDivide> {
-        let mode = |operation| match operation {
-            Operation::Divide(mode) if !mode.rep => Some(mode),
-            _ => None,
-        };
         let by_reason = |mode| Refused::ALL.map(|why| RefusedDivide { mode, why });
-        let divides = Operation::all().filter_map(mode).flat_map(by_reason);
-        divides.filter(|divide| divide.mode.signed || divide.why != Refused::SignRange)
+        let all = divides().flat_map(by_reason);
+        all.filter(|divide| divide.mode.signed || divide.why != Refused::SignRange)
     }
 
     pub fn operation(self) -> Operation {

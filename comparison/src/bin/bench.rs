@@ -7,6 +7,7 @@ use comparison::bench::functions;
 use comparison::bench::packed;
 use comparison::bench::programs::Programs;
 use comparison::bench::registers;
+use comparison::bench::roads;
 use comparison::bench::trap;
 use std::process::ExitCode;
 
@@ -20,6 +21,7 @@ use:
   bench answers                                 answer lines read back, good ones and malformed
   bench trap                                    what would trap, by divide and keys
   bench registers                               over a register record, by operation
+  bench roads                                   the roads, by divide, accepted or refused
   bench programs HATCHYARN FILTER FOLDER        whole programs; files are made in FOLDER
 
 exit: 0 measured, 1 the two sides answer differently or a file failed, 2 not understood
@@ -36,6 +38,7 @@ fn main() -> ExitCode {
         ["answers"] => answers::print(),
         ["trap"] => trap::print(),
         ["registers"] => registers::print(),
+        ["roads"] => roads::print(),
         ["programs", ours, theirs, folder] => Programs {
             ours: ours.into(),
             theirs: theirs.into(),

@@ -52,10 +52,7 @@ impl fmt::Display for Call {
             dividend,
             divisor,
         } = self;
-        write!(
-            out,
-            "would trap, mode {mode:02X}: {dividend:08X} by {divisor:04X}"
-        )
+        write!(out, "mode {mode:02X}: {dividend:08X} by {divisor:04X}")
     }
 }
 

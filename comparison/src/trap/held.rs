@@ -29,7 +29,7 @@ pub fn hold_over(tally: &mut Tally, before: u8, call: Call, flags: u16) {
             given != Answer::of_divide(divided.status),
         ),
     ];
-    tally.hold_call(&parts, || call.to_string());
+    tally.hold_call(&parts, || format!("would trap, {call}"));
 }
 
 /// Holds one call to MartyPC's own divide, with these flags, which is refused exactly if the call says so.
@@ -43,7 +43,7 @@ pub fn hold_to_martypc(tally: &mut Tally, call: Call, flags: u16) {
             given != Answer::of_divide(divided.status),
         ),
     ];
-    tally.hold_call(&parts, || call.to_string());
+    tally.hold_call(&parts, || format!("would trap, {call}"));
 }
 
 /// What comes of a call, and whether a byte beside the one that is lent was written.

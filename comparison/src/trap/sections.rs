@@ -69,7 +69,7 @@ pub fn borders(form: Form) -> Section {
 }
 
 /// All; in the quick form the ends, so that 0, 1, 8000 and FFFF are among the divisors, and some that are drawn.
-fn border_lowers(form: Form, draw: &mut Draw) -> Vec<u32> {
+pub fn border_lowers(form: Form, draw: &mut Draw) -> Vec<u32> {
     let mut lowers = form.bytes(draw);
     if !form.full {
         lowers.extend([0x00, 0x01, 0xFF]);

@@ -53,7 +53,14 @@ pub struct Done<R, F> {
 }
 
 /// The port's `Divided8` and `Divided16`.
-pub type Divided<T> = Done<DivideOutcome<T>, Flags>;
+#[repr(C)]
+pub struct Divided<T> {
+    pub given: DivideOutcome<T>,
+    pub flags: Flags,
+    pub shifted_out: u16,
+    pub no_borrow: u16,
+    pub steps: u16,
+}
 
 #[repr(u8)]
 pub enum DivideOutcome<T> {
