@@ -3,122 +3,87 @@
 use mathlib.Core.Path.{_≡_, refl, sym, ap, ap₂, _∙_}
 use mathlib.Core.Bool.{Bool, true, false}
 use Prim.Native.Nat.{ℕ, zero, suc, _+_, _-_, _*_, _/_, _%_, _^_, _≤_, _<_}
-use native.Mathlib.Nat.{pow-suc, div-add-mod', mod-lt, mod-eq-of-lt, div-eq-of-lt, div-lt-iff-lt-mul, add-zero}
+use native.Mathlib.Nat.{pow-suc, div-add-mod', mod-lt, mod-eq-of-lt, div-eq-of-lt, div-lt-iff-lt-mul, le-div-iff-mul-le}
 use native.Mathlib.Omega.{arith}
 use lib.Arith.{digits-lt, digits-div, digits-mod, lt-one}
-use lib.Bits.{bitOr}
 use lib.Dec.{leb, ltb}
 use lib.Pow.{pow-add, pow-pos}
 use borrow.Author.Tests.{leb-true, leb-false, le-leb, lt-leb}
-use Rattle.flags.specs.Numbers.{bit, top, topSet}
-use Rattle.flags.proofs.Powers.{top-twice, rest-small, rest-large}
-use Rattle.flags.proofs.Masks.{or-bit}
-use Rattle.flags.proofs.SignedLaws.{TopIs, top-is}
-use Rattle.flags.proofs.WordLaws.{bit-le}
-use Rattle.alu.specs.Result.{ResultCoa}
-use Rattle.alu.specs.Step.{Step, left}
-use Rattle.alu.specs.Sum.{sub, sbb}
+use Rattle.flags.specs.Numbers.{top}
+use Rattle.flags.proofs.Powers.{top-twice}
 use Rattle.cord.specs.Round.{Round, high, low, byRoad, cordRound}
 use Rattle.cord.specs.Cord.{CordAnswer, accepted, refused, shifted, Road, shiftedOut, noBorrow, borrow as borrows, roadBy, road, tally, byShiftedOut, shiftedOuts, byNoBorrow, noBorrows, bothRoads, noRoads, lastBy, lastCompare, cordSteps, cord}
 
 -- ---- a round of the code
 
--- the bit that leaves by the left
-left-digit : (n x : ℕ) → 0 < n → x < 2 ^ n → x * 2 / 2 ^ n ≡ bit (topSet n x)
-left-digit n x hn hx = by (topSet n x) (top-is n x)
-  where
-    by : (s : Bool) → TopIs s (top n) x → x * 2 / 2 ^ n ≡ bit s
-    by true h =
-        let m = top-twice n hn in
-        let e : x * 2 ≡ 1 * 2 ^ n + (x * 2 - 2 ^ n) = omega arith in
-        ap (λ (y : ℕ). y / 2 ^ n) e ∙ digits-div 1 (omega arith)
-    by false h = let m = top-twice n hn in div-eq-of-lt (omega arith)
+-- the state that one number for both halves stands for, and one for the last compare with what stood below it
+abbrev pub halved : ℕ → ℕ → ℕ → ℕ → ℕ → Round
+halved n x l u v = record { tmpa = x / 2 ^ n; tmpc = x % 2 ^ n; compared = l / 2 ^ n; shiftedOut = u; noBorrow = v }
 
-abbrev made : ℕ → ℕ → ℕ → ℕ → ℕ → Round
-made a c l u v = record { tmpa = a; tmpc = c; compared = l; shiftedOut = u; noBorrow = v }
-
-same : {a a′ c c′ l l′ : ℕ} (u v : ℕ) → a ≡ a′ → c ≡ c′ → l ≡ l′ → made a c l u v ≡ made a′ c′ l′ u v
+same : {a a′ c c′ l l′ : ℕ} (u v : ℕ) → a ≡ a′ → c ≡ c′ → l ≡ l′
+    → _≡_ {A = Round} (record { tmpa = a; tmpc = c; compared = l; shiftedOut = u; noBorrow = v }) (record { tmpa = a′; tmpc = c′; compared = l′; shiftedOut = u; noBorrow = v })
 same u v p q r = cc
 
--- the code's two shifts are the pair's
-module _ (n b : ℕ) (s : Round) {lower upper : Step} (hn : 0 < n) (ha : s .tmpa < b) (hb : b < 2 ^ n) (hc : s .tmpc < 2 ^ n)
-    (el : lower ≡ left n false (s .tmpc)) (eu : upper ≡ left n (lower .carry) (s .tmpa)) where
-  kept : lower .value ≡ low n s
-  unfolding left
-  kept = ap (λ (t : Step). t .value) el ∙ ap (λ (x : ℕ). x % 2 ^ n) (add-zero (s .tmpc * 2))
+module _ (n b x l u v : ℕ) (hn : 0 < n) where
+  abbrev s : Round
+  s = halved n x l u v
 
-  kept-even : low n s % 2 ≡ 0
-  kept-even = by (topSet n (s .tmpc)) (top-is n (s .tmpc))
+  -- the number shifted left by one is the pair shifted
+  whole : x * 2 ≡ high n s * 2 ^ n + low n s
+  whole = omega (arith, div-add-mod' x (2 ^ n), div-add-mod' (x % 2 ^ n * 2) (2 ^ n))
+
+  small : low n s < 2 ^ n
+  small = mod-lt (x % 2 ^ n * 2) (pow-pos n)
+
+  high-is : x * 2 / 2 ^ n ≡ high n s
+  high-is = ap (λ (y : ℕ). y / 2 ^ n) whole ∙ digits-div (high n s) small
+
+  low-is : x * 2 % 2 ^ n ≡ low n s
+  low-is = ap (λ (y : ℕ). y % 2 ^ n) whole ∙ digits-mod (high n s) small
+
+  -- its lowest bit is clear, so there is room for a one
+  room : low n s + 1 < 2 ^ n
+  room =
+      let m = top-twice n hn in
+      let even : x * 2 ≡ high n s * (top n * 2) + low n s = whole ∙ ap (λ (y : ℕ). high n s * y + low n s) (sym m) in
+      omega (arith, small)
+
+  -- with the one beside it, less the divisor
+  less : b ≤ high n s → x * 2 + 1 - b * 2 ^ n ≡ (high n s - b) * 2 ^ n + (low n s + 1)
+  less h = by (high n s - b) (omega arith)
     where
-      by : (t : Bool) → TopIs t (top n) (s .tmpc) → low n s % 2 ≡ 0
-      by true h = let m = top-twice n hn in let e = rest-large (s .tmpc * 2) (2 ^ n) (omega arith) (omega arith) in omega arith
-      by false h = let m = top-twice n hn in let e = rest-small (s .tmpc * 2) (2 ^ n) (omega arith) in omega arith
+      by : (g : ℕ) → high n s ≡ b + g → x * 2 + 1 - b * 2 ^ n ≡ g * 2 ^ n + (low n s + 1)
+      by g e = let w : x * 2 ≡ (b + g) * 2 ^ n + low n s = whole ∙ ap (λ (y : ℕ). y * 2 ^ n + low n s) e in omega arith
 
-  one-in : bitOr (lower .value) 1 ≡ low n s + 1
-  one-in = ap (λ (x : ℕ). bitOr x 1) kept ∙ or-bit (low n s) 1 kept-even (omega arith)
+  less-high : b ≤ high n s → (x * 2 + 1 - b * 2 ^ n) / 2 ^ n ≡ high n s - b
+  less-high h = ap (λ (y : ℕ). y / 2 ^ n) (less h) ∙ digits-div (high n s - b) room
 
-  high-is : high n s ≡ s .tmpa * 2 + bit (topSet n (s .tmpc))
-  high-is = ap (λ (x : ℕ). s .tmpa * 2 + x) (left-digit n (s .tmpc) hn hc)
+  less-low : b ≤ high n s → (x * 2 + 1 - b * 2 ^ n) % 2 ^ n ≡ low n s + 1
+  less-low h = ap (λ (y : ℕ). y % 2 ^ n) (less h) ∙ digits-mod (high n s - b) room
 
-  value-is : upper .value ≡ high n s % 2 ^ n
-  unfolding left
-  value-is =
-      ap (λ (t : Step). t .value) eu
-      ∙ ap (λ (t : Step). (s .tmpa * 2 + bit (t .carry)) % 2 ^ n) el
-      ∙ ap (λ (x : ℕ). x % 2 ^ n) (sym high-is)
+  -- a border for the number is one for the upper half
+  reaches : (y : ℕ) → y * 2 ^ n ≤ x * 2 → y ≤ high n s
+  reaches y h = let q : y ≤ x * 2 / 2 ^ n = le-div-iff-mul-le (pow-pos n) .1 h in rw high-is at q
 
-  out-is : upper .carry ≡ topSet n (s .tmpa)
-  unfolding left
-  out-is = ap (λ (t : Step). t .carry) eu
+  below : (y : ℕ) → x * 2 < y * 2 ^ n → high n s < y
+  below y h = let q : x * 2 / 2 ^ n < y = div-lt-iff-lt-mul (pow-pos n) .1 h in rw high-is at q
 
-  pub by-first : upper .carry ≡ true → {rest : ResultCoa} → rest ≡ sub n (upper .value) b
-      → made (rest .result) (bitOr (lower .value) 1) (s .compared) (s .shiftedOut + 1) (s .noBorrow) ≡ cordRound n b s
-  unfolding cordRound sbb
-  by-first t {rest} e =
-      rw (le-leb (2 ^ n) (high n s) out) (same (s .shiftedOut + 1) (s .noBorrow) difference one-in refl)
-    where
-      at-top : top n ≤ s .tmpa
-      at-top = leb-true (top n) (s .tmpa) (sym out-is ∙ t)
+  pub by-first : b < 2 ^ n → 2 ^ n * 2 ^ n ≤ x * 2 → halved n (x * 2 + 1 - b * 2 ^ n) l (u + 1) v ≡ cordRound n b s
+  unfolding cordRound
+  by-first hb h =
+      let out = reaches (2 ^ n) h in
+      rw (le-leb (2 ^ n) (high n s) out) (same (u + 1) v (less-high (omega arith)) (less-low (omega arith)) refl)
 
-      out : 2 ^ n ≤ high n s
-      out = omega (arith, high-is, at-top, top-twice n hn)
-
-      big : high n s < 2 ^ n + 2 ^ n
-      big = omega (arith, high-is, bit-le (topSet n (s .tmpc)), at-top, top-twice n hn)
-
-      difference : rest .result ≡ high n s - b
-      difference =
-          let v = value-is in
-          let r = rest-large (high n s) (2 ^ n) big out in
-          let h = high-is in
-          let d = bit-le (topSet n (s .tmpc)) in
-          ap (λ (x : ResultCoa). x .result) e
-          ∙ ap (λ (x : ℕ). x % 2 ^ n) (moved v r)
-          ∙ mod-eq-of-lt (omega arith)
-        where
-          moved : upper .value ≡ high n s % 2 ^ n → high n s ≡ high n s % 2 ^ n + 2 ^ n → 2 ^ n + upper .value - (b + 0) ≡ high n s - b
-          moved v r = omega arith
-
-  module _ (t : upper .carry ≡ false) where
-    inside : high n s < 2 ^ n
-    inside =
-        let below = leb-false (top n) (s .tmpa) (sym out-is ∙ t) in
-        omega (arith, high-is, bit-le (topSet n (s .tmpc)), top-twice n hn)
-
-    whole-value : upper .value ≡ high n s
-    whole-value = value-is ∙ mod-eq-of-lt inside
-
-    pub by-second : b ≤ upper .value → made (upper .value - b) (bitOr (lower .value) 1) (upper .value) (s .shiftedOut) (s .noBorrow + 1) ≡ cordRound n b s
+  module _ (h : x * 2 < 2 ^ n * 2 ^ n) where
+    pub by-second : b * 2 ^ n ≤ x * 2 → halved n (x * 2 + 1 - b * 2 ^ n) (x * 2) u (v + 1) ≡ cordRound n b s
     unfolding cordRound
-    by-second h =
-        let v = whole-value in
-        rw (lt-leb (2 ^ n) (high n s) inside, le-leb b (high n s) (omega arith)) (same (s .shiftedOut) (s .noBorrow + 1) (omega arith) one-in v)
+    by-second i =
+        let takes = reaches b i in
+        rw (lt-leb (2 ^ n) (high n s) (below (2 ^ n) h), le-leb b (high n s) takes) (same u (v + 1) (less-high takes) (less-low takes) high-is)
 
-    pub by-third : upper .value < b → made (upper .value) (lower .value) (upper .value) (s .shiftedOut) (s .noBorrow) ≡ cordRound n b s
+    pub by-third : x * 2 < b * 2 ^ n → halved n (x * 2) (x * 2) u v ≡ cordRound n b s
     unfolding cordRound
-    by-third h =
-        let v = whole-value in
-        rw (lt-leb (2 ^ n) (high n s) inside, lt-leb b (high n s) (omega arith)) (same (s .shiftedOut) (s .noBorrow) v kept v)
+    by-third i = rw (lt-leb (2 ^ n) (high n s) (below (2 ^ n) h), lt-leb b (high n s) (below b i)) (same u v high-is low-is high-is)
 
 -- ---- the walk
 
@@ -138,7 +103,7 @@ pub record Walked (n b d k : ℕ) (s : Round) : Type 0 where
   pub outs : s .shiftedOut ≡ shiftedOuts n b k p
   pub plains : s .noBorrow ≡ noBorrows n b k p
 
-pub begin : (n b a c : ℕ) → a < b → c < 2 ^ n → Walked n b (a * 2 ^ n + c) 0 (made a c a 0 0)
+pub begin : (n b a c : ℕ) → a < b → c < 2 ^ n → Walked n b (a * 2 ^ n + c) 0 (record { tmpa = a; tmpc = c; compared = a; shiftedOut = 0; noBorrow = 0 })
 unfolding lastCompare tally
 begin n b a c ha hc =
     let none : a / b ≡ 0 = div-eq-of-lt ha in
@@ -287,6 +252,16 @@ next n b d k s r hb pos hk w e = rw e (go (w .j) (w .count) (w .rest) (w .whole)
         (w .upper)
         (w .lower ∙ ap (λ (x : ℕ). x * 2 ^ k + w .p / b) (sym split))
         (w .few) (w .last) (w .outs) (w .plains) _ _ refl refl
+
+-- the last compare's left side stays one of n bits: a half that was compared had no bit shifted out
+pub compared-lt : (n b : ℕ) (s : Round) {r : Round} → r ≡ cordRound n b s → s .compared < 2 ^ n → r .compared < 2 ^ n
+unfolding cordRound
+compared-lt n b s e h = rw e (by (leb (2 ^ n) (high n s)) (leb b (high n s)) refl)
+  where
+    by : (x y : Bool) → leb (2 ^ n) (high n s) ≡ x → byRoad x y b (high n s) (low n s) s .compared < 2 ^ n
+    by true y t = h
+    by false true t = leb-false (2 ^ n) (high n s) t
+    by false false t = leb-false (2 ^ n) (high n s) t
 
 -- ---- the answer
 

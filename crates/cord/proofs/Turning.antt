@@ -3,24 +3,29 @@ use mathlib.Core.Path.{_≡_, subst}
 use mathlib.Core.Bool.{Bool}
 use Prim.Native.Nat.{ℕ, suc, _+_, _*_, _%_, _^_, _≤_, _<_}
 use native.Mathlib.Omega.{arith}
+use lib.Arith.{digits-div, digits-mod}
 use lib.Dec.{ltb}
 use Rattle.flags.specs.Numbers.{top}
 use Rattle.cord.specs.Round.{Round, cordRound}
 use Rattle.cord.specs.Cord.{cord}
-use Rattle.cord.proofs.CordLaws.{Walked, begin, next, ready, answerOf, cord-accepts}
+use Rattle.cord.proofs.CordLaws.{halved, Walked, begin, next, compared-lt, ready, answerOf, cord-accepts}
 
 -- so many rounds are made and so many left, of operands that passed the first compare
 pub record Turning (n a b c : ℕ) (at : Round) (left : ℕ) : Type 0 where
   pub rounds : ℕ
   pub walked : Walked n b (a * 2 ^ n + c) rounds at
   pub count : rounds + left ≡ n
+  pub within : at .compared < 2 ^ n
   pub passed : a < b
   pub divisor : b < 2 ^ n
   pub lower : c < 2 ^ n
   pub narrow : n ≤ 16
 
-pub starts : (n a b c : ℕ) → n ≤ 16 → a < b → b < 2 ^ n → c < 2 ^ n → Turning n a b c (record { tmpa = a; tmpc = c; compared = a; shiftedOut = 0; noBorrow = 0 }) n
-starts n a b c h16 ha hb hc = record { rounds = 0; walked = begin n b a c ha hc; count = omega arith; passed = ha; divisor = hb; lower = hc; narrow = h16 }
+-- from one number that holds the dividend
+pub starts : (n a b c : ℕ) → n ≤ 16 → a < b → b < 2 ^ n → c < 2 ^ n → Turning n a b c (halved n (a * 2 ^ n + c) (a * 2 ^ n + c) 0 0) n
+starts n a b c h16 ha hb hc =
+    rw (digits-div a hc, digits-mod a hc)
+    (record { rounds = 0; walked = begin n b a c ha hc; count = omega arith; within = omega arith; passed = ha; divisor = hb; lower = hc; narrow = h16 })
 
 module _ {n a b c : ℕ} {at : Round} {left : ℕ} (t : Turning n a b c at left) where
   -- what a round asks for
@@ -35,6 +40,7 @@ module _ {n a b c : ℕ} {at : Round} {left : ℕ} (t : Turning n a b c at left)
         rounds = suc (t .rounds);
         walked = next n b (a * 2 ^ n + c) (t .rounds) at r (t .divisor) (omega (arith, t .passed)) (omega (arith, t .count)) (t .walked) e;
         count = omega (arith, t .count);
+        within = compared-lt n b at e (t .within);
         passed = t .passed;
         divisor = t .divisor;
         lower = t .lower;

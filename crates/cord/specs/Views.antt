@@ -1,5 +1,6 @@
 -- The values of each width, read as those of the definitions over n.
 -- Assumes nothing.
+use Prim.Native.Nat.{_/_, _%_}
 use Rattle.cord.specs.Round.{Round}
 use Rattle.cord.specs.Cord as Cord
 use Rattle.cord.specs.declared.CordRound8.{CordRound8}
@@ -14,7 +15,7 @@ use Rattle.cord.specs.declared.CordOutcome16.the-variants.{Accepted as C
 use Rattle.cord.specs.declared.CordAnswer16.{CordAnswer16}
 
 abbrev pub round8 : CordRound8 → Round
-round8 s = record { tmpa = s .tmpa; tmpc = s .tmpc; compared = s .compared; shiftedOut = s .«shifted_out»; noBorrow = s .«no_borrow» }
+round8 s = record { tmpa = s .both / 0x100; tmpc = s .both % 0x100; compared = s .compared / 0x100; shiftedOut = s .«shifted_out»; noBorrow = s .«no_borrow» }
 
 abbrev pub results8 : Results8 → Cord.Results
 results8 r = record { quotient = r .quotient; remainder = r .remainder }
@@ -34,7 +35,7 @@ cordAnswer8 a =
     }
 
 abbrev pub round16 : CordRound16 → Round
-round16 s = record { tmpa = s .tmpa; tmpc = s .tmpc; compared = s .compared; shiftedOut = s .«shifted_out»; noBorrow = s .«no_borrow» }
+round16 s = record { tmpa = s .both / 0x1_0000; tmpc = s .both % 0x1_0000; compared = s .compared / 0x1_0000; shiftedOut = s .«shifted_out»; noBorrow = s .«no_borrow» }
 
 abbrev pub results16 : Results16 → Cord.Results
 results16 r = record { quotient = r .quotient; remainder = r .remainder }

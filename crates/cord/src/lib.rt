@@ -2,21 +2,19 @@
 // its register by the left, a bit a round, as the quotient comes in from the right. The chip gathers
 // the quotient's complement and turns it at the end; here the quotient itself is gathered.
 ghost use mathlib.Core.Path.{_≡_};
-ghost use Prim.Native.Nat.{_+_, _*_, _<_};
+ghost use Prim.Native.Nat.{_+_, _*_, _/_, _<_};
 ghost use Rattle.cord.specs.Round.{cordRound};
 ghost use Rattle.cord.specs.Cord.{cord};
 ghost use Rattle.cord.specs.Views.{round8, round16, cordAnswer8, cordAnswer16};
-use alu::step;
-use alu::subtraction;
 use flags::width::Width8;
 use flags::width::Width16;
 
-// Besides the halves: the left side of the last compare made, which sets the flags, and the ones so far
-// by each of the two roads that make one. The steps follow from those by no borrow.
+// Both halves as one number, the upper above the lower. Besides: the left side of the last compare made,
+// which sets the flags, with what stood below it, and the ones so far by each of the two roads that make
+// one. The steps follow from those by no borrow.
 pub struct CordRound8 {
-    pub tmpa: u8,
-    pub tmpc: u8,
-    pub compared: u8,
+    pub both: u32,
+    pub compared: u32,
     pub shifted_out: u16,
     pub no_borrow: u16,
 }
@@ -41,36 +39,34 @@ pub struct CordAnswer8 {
     pub steps: u16,
 }
 
-// A round, by one of three roads: a bit shifted out, no borrow, borrow.
+// A round, by one of three roads: a bit shifted out, no borrow, borrow. The quotient's one enters beside the
+// shift, so that nothing waits for it.
 fn cord_round8(from: CordRound8, tmpb: u8) -> CordRound8
-    requires { ⌜ (from .tmpa < tmpb) × (from .«shifted_out» < 100) × (from .«no_borrow» < 100) ⌝ }
+    requires { ⌜ (from .both / 0x100 < tmpb) × (from .«shifted_out» < 100) × (from .«no_borrow» < 100) ⌝ }
     ensures { λ r. ⌜ round8 r ≡ cordRound 8 tmpb (round8 from) ⌝ }
 {
-    let lower = step::left8(false, from.tmpc);
-    let upper = step::left8(lower.carry, from.tmpa);
-    if upper.carry {
-        let rest = subtraction::alu_sub8(upper.value, tmpb);
+    let divisor = tmpb as u32 * 0x100;
+    let shifted = from.both * 2;
+    let with_one = shifted + 1;
+    if 0x1_0000 <= shifted {
         return CordRound8 {
-            tmpa: rest.result,
-            tmpc: lower.value | 1,
+            both: with_one - divisor,
             compared: from.compared,
             shifted_out: from.shifted_out + 1,
             no_borrow: from.no_borrow,
         };
     }
-    if tmpb <= upper.value {
+    if divisor <= shifted {
         CordRound8 {
-            tmpa: upper.value - tmpb,
-            tmpc: lower.value | 1,
-            compared: upper.value,
+            both: with_one - divisor,
+            compared: shifted,
             shifted_out: from.shifted_out,
             no_borrow: from.no_borrow + 1,
         }
     } else {
         CordRound8 {
-            tmpa: upper.value,
-            tmpc: lower.value,
-            compared: upper.value,
+            both: shifted,
+            compared: shifted,
             shifted_out: from.shifted_out,
             no_borrow: from.no_borrow,
         }
@@ -94,10 +90,10 @@ pub fn cord8(tmpa: u8, tmpb: u8, tmpc: u8, steps: u16) -> CordAnswer8
             steps: steps + 4,
         };
     }
+    let whole = tmpa as u32 * 0x100 + tmpc as u32;
     let mut at = CordRound8 {
-        tmpa,
-        tmpc,
-        compared: tmpa,
+        both: whole,
+        compared: whole,
         shifted_out: 0,
         no_borrow: 0,
     };
@@ -106,25 +102,26 @@ pub fn cord8(tmpa: u8, tmpb: u8, tmpc: u8, steps: u16) -> CordAnswer8
         at = cord_round8(at, tmpb);
         internal_counter -= 1;
     }
+    let quotient = (at.both % 0x100) as u8;
     CordAnswer8 {
         outcome: CordOutcome8::Accepted(Results8 {
-            quotient: at.tmpc,
-            remainder: at.tmpa,
+            quotient,
+            remainder: (at.both / 0x100) as u8,
         }),
-        carry: at.tmpc & Width8::TOP == 0,
-        compared: at.compared,
+        carry: quotient & Width8::TOP == 0,
+        compared: (at.compared / 0x100) as u8,
         shifted_out: at.shifted_out,
         no_borrow: at.no_borrow,
-        steps: steps + 6 + 8 * Width8::BITS as u16 + at.no_borrow + 2 * (at.tmpc & 1) as u16,
+        steps: steps + 6 + 8 * Width8::BITS as u16 + at.no_borrow + 2 * (quotient & 1) as u16,
     }
 }
 
-// Besides the halves: the left side of the last compare made, which sets the flags, and the ones so far
-// by each of the two roads that make one. The steps follow from those by no borrow.
+// Both halves as one number, the upper above the lower. Besides: the left side of the last compare made,
+// which sets the flags, with what stood below it, and the ones so far by each of the two roads that make
+// one. The steps follow from those by no borrow.
 pub struct CordRound16 {
-    pub tmpa: u16,
-    pub tmpc: u16,
-    pub compared: u16,
+    pub both: u64,
+    pub compared: u64,
     pub shifted_out: u16,
     pub no_borrow: u16,
 }
@@ -149,36 +146,34 @@ pub struct CordAnswer16 {
     pub steps: u16,
 }
 
-// A round, by one of three roads: a bit shifted out, no borrow, borrow.
+// A round, by one of three roads: a bit shifted out, no borrow, borrow. The quotient's one enters beside the
+// shift, so that nothing waits for it.
 fn cord_round16(from: CordRound16, tmpb: u16) -> CordRound16
-    requires { ⌜ (from .tmpa < tmpb) × (from .«shifted_out» < 100) × (from .«no_borrow» < 100) ⌝ }
+    requires { ⌜ (from .both / 0x1_0000 < tmpb) × (from .«shifted_out» < 100) × (from .«no_borrow» < 100) ⌝ }
     ensures { λ r. ⌜ round16 r ≡ cordRound 16 tmpb (round16 from) ⌝ }
 {
-    let lower = step::left16(false, from.tmpc);
-    let upper = step::left16(lower.carry, from.tmpa);
-    if upper.carry {
-        let rest = subtraction::alu_sub16(upper.value, tmpb);
+    let divisor = tmpb as u64 * 0x1_0000;
+    let shifted = from.both * 2;
+    let with_one = shifted + 1;
+    if 0x1_0000_0000 <= shifted {
         return CordRound16 {
-            tmpa: rest.result,
-            tmpc: lower.value | 1,
+            both: with_one - divisor,
             compared: from.compared,
             shifted_out: from.shifted_out + 1,
             no_borrow: from.no_borrow,
         };
     }
-    if tmpb <= upper.value {
+    if divisor <= shifted {
         CordRound16 {
-            tmpa: upper.value - tmpb,
-            tmpc: lower.value | 1,
-            compared: upper.value,
+            both: with_one - divisor,
+            compared: shifted,
             shifted_out: from.shifted_out,
             no_borrow: from.no_borrow + 1,
         }
     } else {
         CordRound16 {
-            tmpa: upper.value,
-            tmpc: lower.value,
-            compared: upper.value,
+            both: shifted,
+            compared: shifted,
             shifted_out: from.shifted_out,
             no_borrow: from.no_borrow,
         }
@@ -202,10 +197,10 @@ pub fn cord16(tmpa: u16, tmpb: u16, tmpc: u16, steps: u16) -> CordAnswer16
             steps: steps + 4,
         };
     }
+    let whole = tmpa as u64 * 0x1_0000 + tmpc as u64;
     let mut at = CordRound16 {
-        tmpa,
-        tmpc,
-        compared: tmpa,
+        both: whole,
+        compared: whole,
         shifted_out: 0,
         no_borrow: 0,
     };
@@ -214,15 +209,16 @@ pub fn cord16(tmpa: u16, tmpb: u16, tmpc: u16, steps: u16) -> CordAnswer16
         at = cord_round16(at, tmpb);
         internal_counter -= 1;
     }
+    let quotient = (at.both % 0x1_0000) as u16;
     CordAnswer16 {
         outcome: CordOutcome16::Accepted(Results16 {
-            quotient: at.tmpc,
-            remainder: at.tmpa,
+            quotient,
+            remainder: (at.both / 0x1_0000) as u16,
         }),
-        carry: at.tmpc & Width16::TOP == 0,
-        compared: at.compared,
+        carry: quotient & Width16::TOP == 0,
+        compared: (at.compared / 0x1_0000) as u16,
         shifted_out: at.shifted_out,
         no_borrow: at.no_borrow,
-        steps: steps + 6 + 8 * Width16::BITS as u16 + at.no_borrow + 2 * (at.tmpc & 1),
+        steps: steps + 6 + 8 * Width16::BITS as u16 + at.no_borrow + 2 * (quotient & 1),
     }
 }

@@ -1,4 +1,5 @@
 pub mod CorxLaws
+pub mod ChipLaws
 pub mod CarryLaws
 pub mod MulLaws
 pub mod Answers

@@ -1,4 +1,6 @@
 pub mod Corx
+pub mod InPlace
+pub mod ChipWalk
 pub mod Views
 pub mod Routines
 pub mod Multiply

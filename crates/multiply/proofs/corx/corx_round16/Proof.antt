@@ -1,26 +1,22 @@
--- `multiply::corx::corx_round16` meets its contract: the sum and the two shifts at the width 16. Assumes nothing.
+-- `multiply::corx::corx_round16` meets its contract: what is added fits, and the rest is the definition. Assumes nothing.
+use mathlib.Core.Path.{refl}
+use Prim.Native.Nat.{_%_}
 use native.Mathlib.Omega.{arith}
 use borrow.Author.Needs.{needs}
-use Rattle.flags.proofs.WordLaws.{bit-le}
-use Rattle.multiply.specs.Views.{round16}
-use Rattle.multiply.proofs.CorxLaws.{addend-le, rounded}
+use Rattle.multiply.specs.InPlace.{addRound}
+use Rattle.multiply.proofs.CorxLaws.{once-le}
 use Rattle.multiply.proofs.corx.corx_round16.Statement.{statement}
 use Rattle.multiply.proofs.corx.corx_round16.Tie as tie
 
-mul-addend : tie.Need-mul-addend
-mul-addend c = let a = c .before .args in omega (arith, addend-le (a .tmpb) (a .from .carry))
+mul-t3 : tie.Need-mul-t3
+mul-t3 c = let from = c .before .before .args .from in omega (arith, once-le (from .addend) (from .multiplier % 2) (omega arith))
 
-add-steps : tie.Need-add-t9
-add-steps c = omega (arith, bit-le (c .before .before .before .before .before .before .args .from .carry))
+add-t4 : tie.Need-add-t4
+add-t4 c = let from = c .before .before .before .args .from in omega (arith, once-le (from .addend) (from .multiplier % 2) (omega arith))
 
 returns : tie.Need-returns
-returns c =
-    let sum = c .before .before .before .before in
-    let a = sum .before .before .args in
-    rounded 16 (a .tmpb) (round16 (a .from)) (omega arith) (omega arith) (omega arith) (sum .alu-add16 .ensures) (c .before .before .before .right16 .ensures)
-    (c .before .before .right162 .ensures)
+unfolding addRound
+returns c = refl
 
 pub corx-round16-spec : {M : Type 1} → statement M
-corx-round16-spec =
-    tie.close
-    (tie.spec (λ c. search needs) mul-addend (λ c κs. search needs) (λ c κs. search needs) (λ c κs. search needs) (λ c. search needs) (λ c. search needs) add-steps returns)
+corx-round16-spec = tie.close (tie.spec mul-t3 add-t4 (λ c. search needs) (λ c. search needs) (λ c. search needs) (λ c. search needs) returns)
