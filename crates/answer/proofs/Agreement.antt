@@ -10,11 +10,11 @@ use Rattle.request.specs.Operation.{ops, listed, checked, operationOf}
 use Rattle.request.specs.Limits.{xMost, yMost}
 use Rattle.request.specs.declared.operation.Operation.{Operation}
 use Rattle.request.specs.declared.operation.Operation.the-variants.{Alu as OfAlu, Multiply as OfMultiply, Divide as OfDivide, Decimal as OfDecimal}
-use Rattle.request.specs.declared.operation.Listed.{Listed}
-use Rattle.request.specs.declared.operation.Listed.the-variants.{Alu as AluOp, Multiply, Divide, Decimal as DecimalOp, Unlisted}
-use Rattle.request.specs.declared.operation.Named.{Named}
-use Rattle.request.specs.declared.operation.Named.the-variants.{Operation as Names, Unlisted as NotListed, WrongMode as BadMode}
-use Rattle.request.proofs.RequestLaws.{missed}
+use Rattle.request.specs.Operation.{Listed}
+use Rattle.request.specs.Operation.{AluOp, Multiply, Divide, DecimalOp, Unlisted}
+use Rattle.request.specs.declared.decode.Decoded.{Decoded}
+use Rattle.request.specs.declared.decode.Decoded.the-variants.{Operation as Names, Unlisted as NotListed, WrongMode as BadMode}
+use Rattle.request.proofs.RequestLaws.{below, at, over, above}
 use Rattle.answer.specs.Charted.{bits}
 use Rattle.answer.specs.Table.{unlisted, wrongMode, widthBy, xBits, yBits}
 use Rattle.answer.proofs.Rows.{both}
@@ -27,21 +27,11 @@ divides op mode (OfMultiply m) = not (eqb op 0x11)
 divides op mode (OfDecimal decimal) = not (eqb op 0x11)
 
 -- listed or not, mode wrong or not, and the limits
-abbrev pub agrees : ℕ → ℕ → Named → Bool
+abbrev pub agrees : ℕ → ℕ → Decoded → Bool
 agrees op mode NotListed = unlisted op
 agrees op mode BadMode = not (unlisted op) && wrongMode op mode
 agrees op mode (Names o) =
     not (wrongMode op mode) && not (unlisted op) && eqb (xMost o + 1) (2 ^ xBits op mode) && eqb (yMost o + 1) (2 ^ yBits op mode) && divides op mode o
-
--- a test of every number below n
-abbrev below : (ℕ → Bool) → ℕ → Bool
-below test zero = true
-below test (suc n) = test 0 && below (λ k. test (suc k)) n
-
-at : (test : ℕ → Bool) (n : ℕ) → below test n ≡ true → (k : ℕ) → k < n → test k ≡ true
-at test zero h k l = absurd (omega arith)
-at test (suc n) h zero l = both (test 0) (below (λ k. test (suc k)) n) h .0
-at test (suc n) h (suc k) l = at (λ j. test (suc j)) n (both (test 0) (below (λ k. test (suc k)) n) h .1) k (omega arith)
 
 -- ops to 1C and modes to 08, by computation
 computed : below (λ op. below (λ mode. agrees op mode (operationOf op mode)) 9) 0x1D ≡ true
@@ -52,24 +42,16 @@ listed-agree : (op mode : ℕ) → op < 0x1D → mode < 9 → agrees op mode (op
 listed-agree op mode o m =
     at (λ m. agrees op m (operationOf op m)) 9 (at (λ o. below (λ m. agrees o m (operationOf o m)) 9) 0x1D computed op o) mode m
 
--- a mode above 08 is as wrong as 08
-over : (l : Listed) (mode : ℕ) → 0x07 < mode → checked l mode ≡ checked l 0x08
-over (AluOp alu) mode h = rw (lt-ltb 0x01 mode (omega arith))
-over Multiply mode h = rw (lt-ltb 0x07 mode h)
-over Divide mode h = rw (lt-ltb 0x07 mode h)
-over (DecimalOp decimal) mode h = rw (lt-ltb 0x00 mode (omega arith))
-over Unlisted mode h = refl
-
-over-agrees : (op mode : ℕ) → 0x07 < mode → (n : Named) → agrees op 0x08 n ≡ true → agrees op mode n ≡ true
+over-agrees : (op mode : ℕ) → 0x07 < mode → (n : Decoded) → agrees op 0x08 n ≡ true → agrees op mode n ≡ true
 over-agrees op mode h NotListed e = e
 over-agrees op mode h BadMode e = rw (lt-ltb 0x07 mode h) e
 over-agrees op mode h (Names o) e = absurd (false≢true e)
 
 -- an op above 1C is not listed
 above-agrees : (op mode : ℕ) → 0x1C < op → agrees op mode (operationOf op mode) ≡ true
-unfolding operationOf listed ops
+unfolding operationOf
 above-agrees op mode h =
-    rw (← missed (Unit {0}) op ops (omega arith), lt-leb op 0x0C (omega arith), le-leb 0x10 op (omega arith), lt-leb op 0x11 (omega arith), le-leb 0x18 op (omega arith), lt-leb op 0x1C h)
+    rw (← above op h, lt-leb op 0x0C (omega arith), le-leb 0x10 op (omega arith), lt-leb op 0x11 (omega arith), le-leb 0x18 op (omega arith), lt-leb op 0x1C h)
 
 pub agreed : (op mode : ℕ) → agrees op mode (operationOf op mode) ≡ true
 unfolding operationOf
@@ -80,4 +62,4 @@ agreed op mode = by (leb op 0x1C) (leb mode 0x08) refl refl
     by true true ea eb = listed-agree op mode (omega (arith, leb-true op 0x1C ea)) (omega (arith, leb-true mode 0x08 eb))
     by true false ea eb =
         let h = leb-false mode 0x08 eb in
-        rw (over (listed op) mode (omega arith)) (over-agrees op mode (omega arith) (checked (listed op) 0x08) (listed-agree op 0x08 (omega (arith, leb-true op 0x1C ea)) (omega arith)))
+        rw (← over (listed op) mode (omega arith)) (over-agrees op mode (omega arith) (checked (listed op) 0x08) (listed-agree op 0x08 (omega (arith, leb-true op 0x1C ea)) (omega arith)))

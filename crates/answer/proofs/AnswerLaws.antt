@@ -1,9 +1,11 @@
 -- The answers over the width n: what the charts' functions made, put into an answer, is what the definitions say of the request.
 -- Assumes nothing.
 use mathlib.Core.Path.{_≡_, refl, sym, ap, ap₂, subst, _∙_}
+use mathlib.Core.Bool.{Bool, true, false, cond}
 use Prim.Native.Nat.{ℕ, _+_, _*_, _/_, _%_, _≤_, _<_}
 use native.Mathlib.Nat.{mod-eq-of-lt}
 use native.Mathlib.Omega.{arith}
+use Rattle.flags.specs.Word.{flagsOf}
 use Rattle.flags.specs.declared.word.Flags.{Flags}
 use Rattle.alu.specs.Result.{ResultC, ResultCo, ResultCoa}
 use Rattle.multiply.specs.Routines.{Multiplied}
@@ -11,8 +13,10 @@ use Rattle.multiply.specs.Multiply.{multiply}
 use Rattle.divide.specs.Divide.{DivideOutcome, Divided, refused, divide}
 use Rattle.divide.specs.declared.div.Refusal.{Refusal}
 use Rattle.bcd.specs.declared.adjust.Adjusted.{Adjusted}
-use Rattle.request.specs.Limits.{largest, dividendMost, rightMost, adjustMost}
-use Rattle.request.specs.Judge.{Raw, judged}
+use Rattle.request.specs.Limits.{largest, dividendMost, rightMost, adjustMost, xMost, yMost, fitsIn, inLimits, InRange}
+use Rattle.request.specs.Operation.{operationOf}
+use Rattle.request.specs.Judge.{requestOf, judgedBy, judged, Admitted, TooLarge}
+use Rattle.request.specs.declared.raw.Raw.{Raw}
 use Rattle.request.specs.declared.operation.Width.{Width}
 use Rattle.request.specs.declared.operation.Width.the-variants.{Byte, Word}
 use Rattle.request.specs.declared.operation.Mode.{Mode}
@@ -22,11 +26,12 @@ use Rattle.request.specs.declared.operation.Decimal.{Decimal}
 use Rattle.request.specs.declared.operation.Decimal.the-variants.{Aaa, Aas, Aad, Daa, Das}
 use Rattle.request.specs.declared.operation.Operation.{Operation}
 use Rattle.request.specs.declared.operation.Operation.the-variants.{Alu as OfAlu, Decimal as OfDecimal}
-use Rattle.request.specs.declared.judge.Request.{Request}
-use Rattle.request.specs.declared.judge.Judged.{Judged}
-use Rattle.request.proofs.RequestLaws.{InRange}
-use Rattle.answer.specs.Charted.{wholeOf, plainOf, ofC, ofCo, ofCoa, aluOf, ofProduct8, ofProduct16, refusalStatus, ofOutcome, ofDivided, ofAdjusted, adjustOf, multipliedOf, dividedOf, chartedBy, charted}
-use Rattle.answer.specs.Asked.{ofJudged, asked}
+use Rattle.request.specs.declared.raw.Request.{Request}
+use Rattle.request.specs.declared.decode.Decoded.{Decoded}
+use Rattle.request.specs.declared.decode.Decoded.the-variants.{Operation as Names, Unlisted as NotListed, WrongMode as BadMode}
+use Rattle.request.proofs.RequestLaws.{in-range}
+use Rattle.answer.specs.Charted.{wholeOf, plainOf, ofC, ofCo, ofCoa, aluOf, ofProduct8, ofProduct16, refusalStatus, ofOutcome, ofDivided, ofAdjusted, adjustOf, multipliedOf, dividedOf, limitedTo, chartedBy, charted, chartedAs}
+use Rattle.answer.specs.Asked.{zeros, ofJudged, asked}
 use Rattle.answer.specs.declared.answer.Answer.{Answer}
 
 -- ---- the ALU
@@ -35,29 +40,13 @@ use Rattle.answer.specs.declared.answer.Answer.{Answer}
 pub plain-with : {g h : Flags} → g ≡ h → (r : ℕ) {a : Answer} → a ≡ plainOf g r → a ≡ plainOf h r
 plain-with e r p = p ∙ ap (λ (f : Flags). plainOf f r) e
 
--- an arm of the match: m is what its function made, and told says which operation it is
-module _ (n x y : ℕ) (f : Flags) {alu k : Alu} (told : alu ≡ k) where
-  by-alu : {a : Answer} → a ≡ aluOf n k x y f → a ≡ aluOf n alu x y f
-  by-alu e = e ∙ ap (λ (o : Alu). aluOf n o x y f) (sym told)
-
-  pub by-c : {m m' : ResultC} → m ≡ m' → {a : Answer} → a ≡ ofC m f → ofC m' f ≡ aluOf n k x y f → a ≡ aluOf n alu x y f
-  by-c e p q = by-alu (p ∙ ap (λ (m : ResultC). ofC m f) e ∙ q)
-
-  pub by-co : {m m' : ResultCo} → m ≡ m' → {a : Answer} → a ≡ ofCo m f → ofCo m' f ≡ aluOf n k x y f → a ≡ aluOf n alu x y f
-  by-co e p q = by-alu (p ∙ ap (λ (m : ResultCo). ofCo m f) e ∙ q)
-
-  pub by-coa : {m m' : ResultCoa} → m ≡ m' → {a : Answer} → a ≡ ofCoa m f → ofCoa m' f ≡ aluOf n k x y f → a ≡ aluOf n alu x y f
-  by-coa e p q = by-alu (p ∙ ap (λ (m : ResultCoa). ofCoa m f) e ∙ q)
+-- an answer within limits, worked out
+pub limited-with : (most-x most-y : ℕ) (q : Request) {b c : Answer} → b ≡ c → {a : Answer} → a ≡ limitedTo most-x most-y q b → a ≡ limitedTo most-x most-y q c
+limited-with most-x most-y q e p = p ∙ ap (limitedTo most-x most-y q) e
 
 -- a number that is at most what it was held to is not cut
 pub uncut : (m : ℕ) (x : ℕ) {held most : ℕ} → held ≡ most → x ≤ held → most < m → x % m ≡ x
 uncut m x e h l = mod-eq-of-lt (omega arith)
-
--- so a count is the byte that is handed on
-pub counted : (x y : ℕ) (f : Flags) {alu k : Alu} → alu ≡ k → rightMost k Word ≡ 0xFF → y ≤ rightMost alu Word
-    → aluOf 16 k x (y % 0x100) f ≡ aluOf 16 k x y f
-counted x y f {k = k} told most h =
-    ap (λ (z : ℕ). aluOf 16 k x z f) (uncut 0x100 y (ap (λ (o : Alu). rightMost o Word) told ∙ most) h (omega arith))
 
 -- ---- multiply, divide and the adjusts
 
@@ -102,15 +91,32 @@ pub refused-with : (why : Refusal) {k : ℕ} → k ≡ refusalStatus why → (f 
     → a ≡ ofOutcome (refused why) f steps
 refused-with why e f steps p = p ∙ ap (λ (k : ℕ). wholeOf k f steps 0 0) e
 
-pub by-adjust : (ax byte : ℕ) (f : Flags) {decimal k : Decimal} → decimal ≡ k → {m : Adjusted} → m ≡ adjustOf k ax byte f → {a : Answer} → a ≡ ofAdjusted m
-    → a ≡ ofAdjusted (adjustOf decimal ax byte f)
-by-adjust ax byte f told e p = p ∙ ap ofAdjusted (e ∙ ap (λ (d : Decimal). adjustOf d ax byte f) (sym told))
+-- ---- the limits
 
--- ---- a request
+-- what is asked of the limits, with the numbers of the operation that a match told
+module _ (o : Operation) (q : Request) {u v : ℕ} (eu : u ≡ xMost o) (ev : v ≡ yMost o) {ok : Bool} (e : ok ≡ fitsIn u v (q .flags) (q .x) (q .y)) where
+  limits : ok ≡ inLimits o (q .flags) (q .x) (q .y)
+  limits = e ∙ ap₂ (λ (m n : ℕ). fitsIn m n (q .flags) (q .x) (q .y)) eu ev
 
--- the ranges of the operation that the match told
-pub told-range : {o k : Operation} → o ≡ k → (x y : ℕ) → InRange o x y → InRange k x y
-told-range e x y h = subst (λ (q : Operation). InRange q x y) e h
+  pub inside : ok ≡ true → {a : Answer} → (InRange o (q .x) (q .y) → a ≡ chartedBy o (q .x) (q .y) (flagsOf (q .flags))) → a ≡ chartedAs o q
+  inside t p = rw (← limits, t) (p (in-range o (q .flags) (q .x) (q .y) (sym limits ∙ t)))
+
+  pub outside : ok ≡ false → {a : Answer} → a ≡ zeros 5 → a ≡ chartedAs o q
+  outside t p = rw (← limits, t) p
+
+-- what was worked out of operands that were cut, as none within its limits is
+pub uncut-as : (o : Operation) (q : Request) (u v : ℕ) → (q .x ≤ xMost o → u ≡ q .x) → (q .y ≤ yMost o → v ≡ q .y)
+    → {a : Answer} → a ≡ limitedTo (xMost o) (yMost o) q (chartedBy o u v (flagsOf (q .flags))) → a ≡ chartedAs o q
+uncut-as o q u v eu ev p = p ∙ by (inLimits o (q .flags) (q .x) (q .y)) refl
+  where
+    by : (k : Bool) → inLimits o (q .flags) (q .x) (q .y) ≡ k
+        → cond k (chartedBy o u v (flagsOf (q .flags))) (zeros 5) ≡ cond k (chartedBy o (q .x) (q .y) (flagsOf (q .flags))) (zeros 5)
+    by true e = let h = in-range o (q .flags) (q .x) (q .y) e in ap₂ (λ (m n : ℕ). chartedBy o m n (flagsOf (q .flags))) (eu (h .0)) (ev (h .1))
+    by false e = refl
+
+-- the operation that a match told
+pub told-as : (q : Request) {o k : Operation} → o ≡ k → {a : Answer} → a ≡ chartedAs k q → a ≡ chartedAs o q
+told-as q told p = p ∙ ap (λ (o : Operation). chartedAs o q) (sym told)
 
 right-byte : (alu : Alu) → rightMost alu Byte ≤ 0xFF
 right-byte Add = omega arith
@@ -134,39 +140,50 @@ adjust-byte Aad = omega arith
 adjust-byte Daa = omega arith
 adjust-byte Das = omega arith
 
-module _ (request : Request) (fits : InRange (request .operation) (request .x) (request .y)) where
-  pub by-operation : {k : Operation} → request .operation ≡ k → {a : Answer} → a ≡ chartedBy k (request .x) (request .y) (request .flags) → a ≡ charted request
-  unfolding charted
-  by-operation told e = e ∙ ap (λ (o : Operation). chartedBy o (request .x) (request .y) (request .flags)) (sym told)
+-- an arm of the ALU: k is its operation, and its count is a byte
+pub alu-byte : (q : Request) {alu k : Alu} → alu ≡ k
+    → {a : Answer} → a ≡ limitedTo 0xFF (rightMost k Byte) q (aluOf 8 k (q .x % 0x100) (q .y % 0x100) (flagsOf (q .flags))) → a ≡ chartedAs (OfAlu alu Byte) q
+alu-byte q {alu} {k} told p =
+    told-as q (ap (λ (o : Alu). OfAlu o Byte) told)
+    (uncut-as (OfAlu k Byte) q (q .x % 0x100) (q .y % 0x100) (λ h. uncut 0x100 (q .x) refl h (omega arith)) (λ h. uncut 0x100 (q .y) refl h (omega (arith, right-byte k))) p)
 
-  pub right-word : {alu : Alu} {w : Width} → request .operation ≡ OfAlu alu w → w ≡ Word → request .y ≤ rightMost alu Word
-  right-word {alu} told e = subst (λ (w : Width). request .y ≤ rightMost alu w) e (told-range told (request .x) (request .y) fits .1)
+pub alu-word : (q : Request) {alu k : Alu} → alu ≡ k
+    → {a : Answer} → a ≡ limitedTo 0xFFFF (rightMost k Word) q (aluOf 16 k (q .x % 0x1_0000) (q .y) (flagsOf (q .flags))) → a ≡ chartedAs (OfAlu alu Word) q
+alu-word q {alu} {k} told p =
+    told-as q (ap (λ (o : Alu). OfAlu o Word) told)
+    (uncut-as (OfAlu k Word) q (q .x % 0x1_0000) (q .y) (λ h. uncut 0x1_0000 (q .x) refl h (omega arith)) (λ h. refl) p)
 
-  pub alu-byte : {alu : Alu} {w : Width} → request .operation ≡ OfAlu alu w → w ≡ Byte
-      → {a : Answer} → a ≡ aluOf 8 alu (request .x % 0x100) (request .y % 0x100) (request .flags) → a ≡ charted request
-  alu-byte {alu} told e p =
-      let both = told ∙ ap (OfAlu alu) e in
-      let h = told-range both (request .x) (request .y) fits in
-      let x = uncut 0x100 (request .x) refl (h .0) (omega arith) in
-      let y = uncut 0x100 (request .y) refl (h .1) (omega (arith, right-byte alu)) in
-      by-operation both (p ∙ ap₂ (λ (u v : ℕ). aluOf 8 alu u v (request .flags)) x y)
+pub alu-count : (q : Request) {alu k : Alu} → alu ≡ k → rightMost k Word ≡ 0xFF
+    → {a : Answer} → a ≡ limitedTo 0xFFFF (rightMost k Word) q (aluOf 16 k (q .x % 0x1_0000) (q .y % 0x100) (flagsOf (q .flags))) → a ≡ chartedAs (OfAlu alu Word) q
+alu-count q {alu} {k} told most p =
+    told-as q (ap (λ (o : Alu). OfAlu o Word) told)
+    (uncut-as (OfAlu k Word) q (q .x % 0x1_0000) (q .y % 0x100) (λ h. uncut 0x1_0000 (q .x) refl h (omega arith)) (λ h. uncut 0x100 (q .y) most h (omega arith)) p)
 
-  pub alu-word : {alu : Alu} {w : Width} → request .operation ≡ OfAlu alu w → w ≡ Word
-      → {a : Answer} → a ≡ aluOf 16 alu (request .x % 0x1_0000) (request .y) (request .flags) → a ≡ charted request
-  alu-word {alu} told e p =
-      let both = told ∙ ap (OfAlu alu) e in
-      let x = uncut 0x1_0000 (request .x) refl (told-range both (request .x) (request .y) fits .0) (omega arith) in
-      by-operation both (p ∙ ap (λ (u : ℕ). aluOf 16 alu u (request .y) (request .flags)) x)
+-- an arm of the adjusts, of the flags taken apart
+pub by-adjust : (q : Request) {f : Flags} → f ≡ flagsOf (q .flags) → {decimal k : Decimal} → decimal ≡ k → {m : Adjusted} → m ≡ adjustOf k (q .x % 0x1_0000) (q .y % 0x100) f
+    → {a : Answer} → a ≡ limitedTo 0xFFFF (adjustMost k) q (ofAdjusted m) → a ≡ chartedAs (OfDecimal decimal) q
+by-adjust q {f} ef {decimal} {k} told e p =
+    told-as q (ap OfDecimal told)
+    (uncut-as (OfDecimal k) q (q .x % 0x1_0000) (q .y % 0x100) (λ h. uncut 0x1_0000 (q .x) refl h (omega arith)) (λ h. uncut 0x100 (q .y) refl h (omega (arith, adjust-byte k)))
+    (limited-with 0xFFFF (adjustMost k) q (ap ofAdjusted (e ∙ ap (λ (g : Flags). adjustOf k (q .x % 0x1_0000) (q .y % 0x100) g) ef)) p))
 
-  pub decimal-is : {decimal : Decimal} → request .operation ≡ OfDecimal decimal
-      → {a : Answer} → a ≡ ofAdjusted (adjustOf decimal (request .x % 0x1_0000) (request .y % 0x100) (request .flags)) → a ≡ charted request
-  decimal-is {decimal} told p =
-      let h = told-range told (request .x) (request .y) fits in
-      let x = uncut 0x1_0000 (request .x) refl (h .0) (omega arith) in
-      let y = uncut 0x100 (request .y) refl (h .1) (omega (arith, adjust-byte decimal)) in
-      by-operation told (p ∙ ap₂ (λ (u v : ℕ). ofAdjusted (adjustOf decimal u v (request .flags))) x y)
+-- what is answered to a name
+abbrev answeredBy : Decoded → Raw → Answer
+answeredBy (Names o) r = chartedAs o (requestOf o r)
+answeredBy NotListed r = zeros 3
+answeredBy BadMode r = zeros 4
 
--- what the judge told, and what the arm answered
-pub asked-as : (r : Raw) {j k : Judged} → j ≡ judged r → j ≡ k → {a : Answer} → a ≡ ofJudged k → a ≡ asked r
-unfolding asked
-asked-as r e told p = p ∙ ap ofJudged (sym told ∙ e)
+judged-name : (n : Decoded) (r : Raw) → answeredBy n r ≡ ofJudged (judgedBy n r)
+unfolding charted
+judged-name (Names o) r = by (inLimits o (r .flags) (r .x) (r .y))
+  where
+    by : (k : Bool) → cond k (charted (requestOf o r)) (zeros 5) ≡ ofJudged (cond k (Admitted (requestOf o r)) TooLarge)
+    by true = refl
+    by false = refl
+judged-name NotListed r = refl
+judged-name BadMode r = refl
+
+-- what the match on the name told, and what the arm answered
+pub asked-as : (r : Raw) {n k : Decoded} → n ≡ operationOf (r .op) (r .mode) → n ≡ k → {a : Answer} → a ≡ answeredBy k r → a ≡ asked r
+unfolding asked judged
+asked-as r e told p = p ∙ ap (λ (n : Decoded). answeredBy n r) (sym told ∙ e) ∙ judged-name (operationOf (r .op) (r .mode)) r

@@ -17,9 +17,10 @@ use Rattle.divide.proofs.Refusals.{refused-whole}
 use Rattle.divide.proofs.RefusedFlags.{flags-not-seen}
 use Rattle.request.specs.Operation.{ops, listed, widthOf, modeOf, operationOf}
 use Rattle.request.specs.Limits.{xMost, yMost}
-use Rattle.request.specs.Judge.{raw, inLimits, requestOf, judgedBy, judged}
-use Rattle.request.specs.declared.judge.Judged.the-variants.{Admitted, TooLarge}
-use Rattle.request.specs.declared.operation.Named.the-variants.{Operation as Names, WrongMode}
+use Rattle.request.specs.Judge.{raw, requestOf, judgedBy, judged}
+use Rattle.request.specs.Limits.{inLimits}
+use Rattle.request.specs.Judge.{Admitted, TooLarge}
+use Rattle.request.specs.declared.decode.Decoded.the-variants.{Operation as Names, WrongMode}
 use Rattle.request.specs.declared.operation.Operation.the-variants.{Divide}
 use Rattle.answer.specs.Charted.{bits, refusalStatus, ofDivided, charted}
 use Rattle.answer.specs.Asked.{Raw, ofJudged, asked}

@@ -16,7 +16,8 @@ use Rattle.divide.specs.declared.div.Refusal.{Refusal}
 use Rattle.divide.specs.declared.div.Refusal.the-variants.{ZeroDivisor, TooWide, SignRange}
 use Rattle.divide.proofs.Refusals.{three-cover}
 use Rattle.request.specs.Operation.{ops, listed, widthOf, modeOf, operationOf}
-use Rattle.request.specs.Judge.{inLimits, judged}
+use Rattle.request.specs.Judge.{judged}
+use Rattle.request.specs.Limits.{inLimits}
 use Rattle.request.specs.declared.operation.Operation.the-variants.{Divide}
 use Rattle.answer.specs.Charted.{bits, ofDivided, charted}
 use Rattle.answer.specs.Asked.{raw, asked, statusOf}

@@ -16,17 +16,18 @@ use Rattle.divide.specs.declared.div.Refusal.the-variants.{ZeroDivisor, TooWide
 use Rattle.divide.proofs.Refusals.{by-reason}
 use Rattle.request.specs.Operation.{operationOf}
 use Rattle.request.specs.Limits.{xMost, yMost}
-use Rattle.request.specs.Judge.{inLimits, requestOf, judgedBy, judged}
+use Rattle.request.specs.Judge.{requestOf, judgedBy, judged}
+use Rattle.request.specs.Limits.{inLimits}
 use Rattle.request.specs.declared.operation.Width.{Width}
 use Rattle.request.specs.declared.operation.Width.the-variants.{Byte, Word}
 use Rattle.request.specs.declared.operation.Alu.{Alu}
 use Rattle.request.specs.declared.operation.Alu.the-variants as Alus
 use Rattle.request.specs.declared.operation.Operation.{Operation}
 use Rattle.request.specs.declared.operation.Operation.the-variants.{Alu as OfAlu, Multiply as OfMultiply, Divide as OfDivide, Decimal as OfDecimal}
-use Rattle.request.specs.declared.operation.Named.{Named}
-use Rattle.request.specs.declared.operation.Named.the-variants.{Operation as Names, Unlisted as NotListed, WrongMode as BadMode}
-use Rattle.request.specs.declared.judge.Judged.{Judged}
-use Rattle.request.specs.declared.judge.Judged.the-variants.{Admitted, Unlisted, WrongMode, TooLarge}
+use Rattle.request.specs.declared.decode.Decoded.{Decoded}
+use Rattle.request.specs.declared.decode.Decoded.the-variants.{Operation as Names, Unlisted as NotListed, WrongMode as BadMode}
+use Rattle.request.specs.Judge.{Judged}
+use Rattle.request.specs.Judge.{Admitted, Unlisted, WrongMode, TooLarge}
 use Rattle.multiply.specs.Routines.{Multiplied}
 use Rattle.multiply.specs.Multiply.{multiply}
 use Rattle.answer.specs.Charted.{bits, aluOf, multipliedBy, ofOutcome, ofDivided, chartedBy, charted}
@@ -149,7 +150,7 @@ module _ (r : Raw) where
   unfolding asked judged
   by-table = by (operationOf (r .op) (r .mode)) (agreed (r .op) (r .mode))
     where
-      by : (n : Named) → agrees (r .op) (r .mode) n ≡ true → ofJudged (judgedBy n r) .status ≡ firstOf (rows r)
+      by : (n : Decoded) → agrees (r .op) (r .mode) n ≡ true → ofJudged (judgedBy n r) .status ≡ firstOf (rows r)
       by NotListed e = rw e
       by BadMode e = let h = both (not (unlisted (r .op))) (wrongMode (r .op) (r .mode)) e in rw (not-true (unlisted (r .op)) (h .0), h .1)
       by (Names o) e =
@@ -177,7 +178,7 @@ module _ (r : Raw) where
   rest-zeros = by (judged r)
     where
       by : (j : Judged) → 1 ≤ ofJudged j .status → ofJudged j .status ≤ 5 → ofJudged j ≡ zeros (ofJudged j .status)
-      by (Admitted q) low high = absurd (never-1-to-5 (q .operation) (q .x) (q .y) (q .flags) low high)
+      by (Admitted q) low high = absurd (never-1-to-5 (q .operation) (q .x) (q .y) (flagsOf (q .flags)) low high)
       by Unlisted low high = refl
       by WrongMode low high = refl
       by TooLarge low high = refl

@@ -28,9 +28,10 @@ use Rattle.request.specs.declared.operation.Decimal.{Decimal}
 use Rattle.request.specs.declared.operation.Decimal.the-variants.{Aaa, Aas, Aad, Daa, Das}
 use Rattle.request.specs.declared.operation.Operation.{Operation}
 use Rattle.request.specs.declared.operation.Operation.the-variants.{Alu as OfAlu, Multiply as OfMultiply, Divide as OfDivide, Decimal as OfDecimal}
-use Rattle.request.specs.declared.judge.Judged.{Judged}
-use Rattle.request.specs.declared.judge.Judged.the-variants.{Admitted, Unlisted, WrongMode, TooLarge}
-use Rattle.request.proofs.RequestLaws.{InRange, admitted-in-range}
+use Rattle.request.specs.Judge.{Judged}
+use Rattle.request.specs.Judge.{Admitted, Unlisted, WrongMode, TooLarge}
+use Rattle.request.specs.Limits.{InRange}
+use Rattle.request.proofs.RequestLaws.{admitted-in-range}
 use Rattle.answer.specs.Charted.{plainOf, aluOf, bits, ofOutcome, ofAdjusted, adjustOf, multipliedBy, chartedBy, charted}
 use Rattle.answer.specs.Asked.{Raw, zeros, ofJudged, asked}
 use Rattle.answer.specs.declared.answer.Answer.{Answer}
@@ -157,7 +158,7 @@ unfolding asked charted
 asked-words r = by (judged r) refl
   where
     by : (j : Judged) → judged r ≡ j → Words (ofJudged j)
-    by (Admitted q) e = charted-words (q .operation) (q .x) (q .y) (q .flags) (admitted-in-range r refl e)
+    by (Admitted q) e = charted-words (q .operation) (q .x) (q .y) (flagsOf (q .flags)) (admitted-in-range r refl e)
     by Unlisted e = zeros-words 3
     by WrongMode e = zeros-words 4
     by TooLarge e = zeros-words 5

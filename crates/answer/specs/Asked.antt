@@ -1,16 +1,12 @@
 -- The answer to a raw request: the table of statuses from 3 on. Assumes nothing.
 use mathlib.Core.List.{List, [], _∷_}
 use Prim.Native.Nat.{ℕ}
-pub use Rattle.request.specs.Judge.{Raw, raw}
-use Rattle.request.specs.Judge.{judged}
-use Rattle.request.specs.declared.judge.Judged.{Judged}
-use Rattle.request.specs.declared.judge.Judged.the-variants.{Admitted, Unlisted, WrongMode, TooLarge}
+pub use Rattle.request.specs.Judge.{raw}
+pub use Rattle.request.specs.declared.raw.Raw.{Raw}
+use Rattle.request.specs.Judge.{judged, Judged, Admitted, Unlisted, WrongMode, TooLarge}
+pub use Rattle.answer.specs.Charted.{zeros}
 use Rattle.answer.specs.Charted.{charted}
 use Rattle.answer.specs.declared.answer.Answer.{Answer}
-
--- a refusal, the rest zeros
-abbrev pub zeros : ℕ → Answer
-zeros status = record { status = status; flags = 0; steps = 0; r = 0; s = 0 }
 
 -- an admitted request by the charts, else the status of its refusal
 abbrev pub ofJudged : Judged → Answer

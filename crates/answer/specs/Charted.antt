@@ -1,6 +1,7 @@
 -- What an admitted request is answered, by the charts, and where its results stand. Assumes nothing.
+use mathlib.Core.Bool.{cond}
 use Prim.Native.Nat.{ℕ, _/_, _%_}
-use Rattle.flags.specs.Word.{wordOf, setC, setCO, setCOA}
+use Rattle.flags.specs.Word.{flagsOf, wordOf, setC, setCO, setCOA}
 use Rattle.flags.specs.declared.word.Flags.{Flags}
 use Rattle.alu.specs.Result.{ResultC, ResultCo, ResultCoa}
 use Rattle.alu.specs.Sum.{add, adc, sub, sbb, neg}
@@ -22,16 +23,25 @@ use Rattle.request.specs.declared.operation.Decimal.{Decimal}
 use Rattle.request.specs.declared.operation.Decimal.the-variants.{Aaa, Aas, Aad, Daa, Das}
 use Rattle.request.specs.declared.operation.Operation.{Operation}
 use Rattle.request.specs.declared.operation.Operation.the-variants.{Alu as OfAlu, Multiply, Divide, Decimal as OfDecimal}
-use Rattle.request.specs.declared.judge.Request.{Request}
+use Rattle.request.specs.declared.raw.Request.{Request}
+use Rattle.request.specs.Limits.{fitsIn, xMost, yMost}
 use Rattle.answer.specs.declared.answer.Answer.{Answer}
 
 -- the status, the flags as a word, the steps, R and S
 abbrev pub wholeOf : ℕ → Flags → ℕ → ℕ → ℕ → Answer
 wholeOf status f steps r s = record { status = status; flags = wordOf f; steps = steps; r = r; s = s }
 
+-- a refusal, the rest zeros
+abbrev pub zeros : ℕ → Answer
+zeros status = record { status = status; flags = 0; steps = 0; r = 0; s = 0 }
+
 -- status 0, no step and one result
 abbrev pub plainOf : Flags → ℕ → Answer
 plainOf f r = wholeOf 0 f 0 r 0
+
+-- 5, where X or Y is larger than that, or a flag outside 08D5
+abbrev pub limitedTo : ℕ → ℕ → Request → Answer → Answer
+limitedTo most-x most-y r a = cond (fitsIn most-x most-y (r .flags) (r .x) (r .y)) a (zeros 5)
 
 -- the flags that an operation names go over those handed in
 abbrev pub ofC : ResultC → Flags → Answer
@@ -123,4 +133,8 @@ chartedBy (OfDecimal decimal) x y f = ofAdjusted (adjustOf decimal x y f)
 
 -- an admitted request by its chart
 unfoldable pub charted : Request → Answer
-charted r = chartedBy (r .operation) (r .x) (r .y) (r .flags)
+charted r = chartedBy (r .operation) (r .x) (r .y) (flagsOf (r .flags))
+
+-- an operation on a request's X, Y and flags: by its chart within its limits, and 5 outside them
+abbrev pub chartedAs : Operation → Request → Answer
+chartedAs o r = limitedTo (xMost o) (yMost o) r (chartedBy o (r .x) (r .y) (flagsOf (r .flags)))

@@ -1,21 +1,27 @@
-// An answer, and those of the multiplies, divides and adjusts.
+// An answer: where results, flags, steps and statuses stand. The flags that an operation names go over those
+// handed in; an ALU operation counts no step.
 ghost use mathlib.Core.Path.{_≡_};
 ghost use Rattle.divide.specs.Views.{divided8, divided16};
 ghost use Rattle.multiply.specs.Views.{product8, product16};
-ghost use Rattle.answer.specs.Charted.{wholeOf, plainOf, ofProduct8, ofProduct16, refusalStatus, ofDivided, ofAdjusted, adjustOf};
+ghost use Rattle.flags.specs.Word.{flagsOf};
+ghost use Rattle.alu.specs.Views.{c8, c16, co8, co16, coa8, coa16};
+ghost use Rattle.answer.specs.Charted.{wholeOf, zeros as zerosOf, plainOf, limitedTo, ofC, ofCo, ofCoa, ofProduct8, ofProduct16, refusalStatus, ofDivided, ofAdjusted};
+use alu::result::ResultC8;
+use alu::result::ResultC16;
+use alu::result::ResultCo8;
+use alu::result::ResultCo16;
+use alu::result::ResultCoa8;
+use alu::result::ResultCoa16;
 use bcd::adjust::Adjusted;
-use bcd::ascii;
-use bcd::decimal;
 use divide::div::DivideOutcome8;
 use divide::div::DivideOutcome16;
 use divide::div::Divided8;
 use divide::div::Divided16;
 use divide::div::Refusal;
-use flags::parity;
 use flags::word::Flags;
 use multiply::mul::Product8;
 use multiply::mul::Product16;
-use request::operation::Decimal;
+use request::raw::Request;
 
 pub struct Answer {
     pub status: u8,
@@ -38,11 +44,77 @@ fn whole(status: u8, flags: Flags, steps: u16, r: u16, s: u16) -> Answer
     }
 }
 
+// A refusal before any operation ran: no flags, steps or results.
+pub fn zeros(status: u8) -> Answer
+    ensures { λ a. ⌜ a ≡ zerosOf status ⌝ }
+{
+    Answer {
+        status,
+        flags: 0,
+        steps: 0,
+        r: 0,
+        s: 0,
+    }
+}
+
 // Status 0, no step and one result.
 pub fn plain(flags: Flags, r: u16) -> Answer
     ensures { λ a. ⌜ a ≡ plainOf flags r ⌝ }
 {
     whole(0, flags, 0, r, 0)
+}
+
+// What is answered within the limits of X, Y and the flags, and 5 outside them.
+pub fn limited(request: Request, x_most: u32, y_most: u16, a: Answer) -> Answer
+    ensures { λ r. ⌜ r ≡ limitedTo «x_most» «y_most» request a ⌝ }
+{
+    if request.fits(x_most, y_most) {
+        return a;
+    }
+    zeros(5)
+}
+
+// The ALU operations: X is as wide as the work, and how large Y may be is the operation's.
+pub fn of_c8(made: ResultC8, request: Request, y_most: u16) -> Answer
+    ensures { λ a. ⌜ a ≡ limitedTo 0xFF «y_most» request (ofC (c8 made) (flagsOf (request .flags))) ⌝ }
+{
+    let flags = Flags::from_word(request.flags).with_c(made.carry);
+    limited(request, 0xFF, y_most, plain(flags, made.result as u16))
+}
+
+pub fn of_co8(made: ResultCo8, request: Request, y_most: u16) -> Answer
+    ensures { λ a. ⌜ a ≡ limitedTo 0xFF «y_most» request (ofCo (co8 made) (flagsOf (request .flags))) ⌝ }
+{
+    let flags = Flags::from_word(request.flags).with_co(made.carry, made.overflow);
+    limited(request, 0xFF, y_most, plain(flags, made.result as u16))
+}
+
+pub fn of_coa8(made: ResultCoa8, request: Request, y_most: u16) -> Answer
+    ensures { λ a. ⌜ a ≡ limitedTo 0xFF «y_most» request (ofCoa (coa8 made) (flagsOf (request .flags))) ⌝ }
+{
+    let flags = Flags::from_word(request.flags).with_coa(made.carry, made.overflow, made.aux_carry);
+    limited(request, 0xFF, y_most, plain(flags, made.result as u16))
+}
+
+pub fn of_c16(made: ResultC16, request: Request, y_most: u16) -> Answer
+    ensures { λ a. ⌜ a ≡ limitedTo 0xFFFF «y_most» request (ofC (c16 made) (flagsOf (request .flags))) ⌝ }
+{
+    let flags = Flags::from_word(request.flags).with_c(made.carry);
+    limited(request, 0xFFFF, y_most, plain(flags, made.result))
+}
+
+pub fn of_co16(made: ResultCo16, request: Request, y_most: u16) -> Answer
+    ensures { λ a. ⌜ a ≡ limitedTo 0xFFFF «y_most» request (ofCo (co16 made) (flagsOf (request .flags))) ⌝ }
+{
+    let flags = Flags::from_word(request.flags).with_co(made.carry, made.overflow);
+    limited(request, 0xFFFF, y_most, plain(flags, made.result))
+}
+
+pub fn of_coa16(made: ResultCoa16, request: Request, y_most: u16) -> Answer
+    ensures { λ a. ⌜ a ≡ limitedTo 0xFFFF «y_most» request (ofCoa (coa16 made) (flagsOf (request .flags))) ⌝ }
+{
+    let flags = Flags::from_word(request.flags).with_coa(made.carry, made.overflow, made.aux_carry);
+    limited(request, 0xFFFF, y_most, plain(flags, made.result))
 }
 
 pub fn of_product8(made: Product8) -> Answer
@@ -103,17 +175,4 @@ pub fn of_adjusted(made: Adjusted) -> Answer
     ensures { λ a. ⌜ a ≡ ofAdjusted made ⌝ }
 {
     whole(0, made.flags, made.steps, made.ax, 0)
-}
-
-pub fn adjust(decimal: Decimal, ax: u16, byte: u8, flags: Flags) -> Answer
-    ensures { λ a. ⌜ a ≡ ofAdjusted (adjustOf decimal ax byte flags) ⌝ }
-{
-    let table = parity::parity_table();
-    match decimal {
-        Decimal::Aaa => of_adjusted(ascii::aaa(ax, flags, &table)),
-        Decimal::Aas => of_adjusted(ascii::aas(ax, flags, &table)),
-        Decimal::Aad => of_adjusted(ascii::aad(ax, byte, flags, &table)),
-        Decimal::Daa => of_adjusted(decimal::daa(ax, flags, &table)),
-        Decimal::Das => of_adjusted(decimal::das(ax, flags, &table)),
-    }
 }

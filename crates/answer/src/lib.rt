@@ -1,4 +1,4 @@
 // The answer to a request: the charts, by the operation that it names.
-pub mod alu_answer;
 pub mod answer;
 pub mod ask;
+pub mod chart;

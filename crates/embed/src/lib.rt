@@ -17,6 +17,7 @@ ghost use Rattle.packed.specs.Told.{told, toldBy};
 ghost use Rattle.record.specs.Judge.{readBack};
 ghost use Rattle.record.specs.Told.{statusOf as readStatus, recordLeft, turn, turnAt};
 use answer::ask;
+use flags::parity;
 use line::one;
 use line::run;
 use packed::string;
@@ -35,7 +36,8 @@ pub extern "C" fn hatchyarn_ask(
 ) -> u8
     ensures { λ r. ⌜ (r ≡ statusOf op mode flags x y) × (now (answer .exit) ≡ partsOf op mode flags x y) ⌝ }
 {
-    ask::ask_into(op, mode, flags, x, y, answer)
+    let parity = parity::parity_table();
+    ask::ask_into(op, mode, flags, x, y, &parity, answer)
 }
 
 // Whether the divide of mode, dividend and divisor would trap goes into `trap`, as 0 or 1; returns 0. What

@@ -12,9 +12,9 @@ use Rattle.bcd.specs.declared.adjust.Adjusted.{Adjusted}
 use Rattle.request.specs.Operation.{ops, listed, operationOf}
 use Rattle.request.specs.Limits.{adjustMost, xMost, yMost}
 use Rattle.request.specs.Judge.{raw, requestOf, judged}
-use Rattle.request.specs.declared.judge.Judged.the-variants.{Admitted, TooLarge}
+use Rattle.request.specs.Judge.{Admitted, TooLarge}
 use Rattle.request.specs.declared.operation.Width.the-variants.{Byte, Word}
-use Rattle.request.specs.declared.operation.Named.the-variants.{Operation as Names}
+use Rattle.request.specs.declared.decode.Decoded.the-variants.{Operation as Names}
 use Rattle.request.specs.declared.operation.Operation.{Operation}
 use Rattle.request.specs.declared.operation.Operation.the-variants.{Multiply, Divide, Decimal as OfDecimal}
 use Rattle.request.specs.declared.operation.Decimal.{Decimal}

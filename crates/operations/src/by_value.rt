@@ -7,7 +7,6 @@ ghost use Rattle.registers.specs.Over.{settledOf, over};
 ghost use Rattle.operations.specs.Named.{modeBy, checkedBy};
 use answer::answer as answers;
 use answer::answer::Answer;
-use answer::ask;
 use bcd::adjust;
 use bcd::ascii;
 use bcd::decimal;
@@ -27,7 +26,7 @@ fn checked(flags: u16, a: Answer) -> Answer
     if Flags::is_flags(flags) {
         return a;
     }
-    ask::refused(5)
+    answers::zeros(5)
 }
 
 // AX and DX take what they are given only where all is done.

@@ -8,9 +8,10 @@ use borrow.Author.Tests.{eqb-true}
 use Rattle.flags.specs.Numbers.{isSet}
 use Rattle.flags.specs.Word.{flagsOf}
 use Rattle.request.specs.Operation.{ops, listed, modeOf, operationOf}
-use Rattle.request.specs.Judge.{raw, inLimits, requestOf, judgedBy, judged}
-use Rattle.request.specs.declared.judge.Judged.the-variants.{Admitted, TooLarge}
-use Rattle.request.specs.declared.operation.Named.the-variants.{Operation as Names, WrongMode}
+use Rattle.request.specs.Judge.{raw, requestOf, judgedBy, judged}
+use Rattle.request.specs.Limits.{inLimits}
+use Rattle.request.specs.Judge.{Admitted, TooLarge}
+use Rattle.request.specs.declared.decode.Decoded.the-variants.{Operation as Names, WrongMode}
 use Rattle.request.specs.declared.operation.Operation.the-variants.{Divide}
 use Rattle.answer.specs.Charted.{charted}
 use Rattle.answer.specs.Asked.{ofJudged, asked}

@@ -5,6 +5,8 @@ ghost use Rattle.registers.specs.Over.{isOver, byOp, readBy, axBy, dxBy,
 use crate::count;
 use answer::answer::Answer;
 use answer::ask;
+use flags::parity;
+use request::raw::Raw;
 
 fn is_over(op: u8) -> bool
     ensures { λ r. ⌜ r ≡ isOver op ⌝ }
@@ -83,7 +85,15 @@ pub fn operate(
         *steps = 0;
         return 3;
     }
-    let a = ask::by_parts(op, mode, *flags, read(op, mode, *ax, *dx), y);
+    let raw = Raw {
+        op,
+        mode,
+        flags: *flags,
+        x: read(op, mode, *ax, *dx),
+        y,
+    };
+    let parity = parity::parity_table();
+    let a = ask::ask(raw, &parity);
     let status = count::count(a, flags, total, steps);
     if status != 0 {
         return status;

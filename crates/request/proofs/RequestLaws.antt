@@ -1,33 +1,43 @@
--- What an op, a mode and the ranges tell, as the code tests them, is what the definitions say. Assumes nothing.
-use mathlib.Core.Path.{_≡_, refl, sym, ap, subst, _∙_}
-use mathlib.Core.Bool.{Bool, true, false, cond, _&&_}
+-- What an op, a mode and the limits tell, as the code tests them, is what the definitions say. Assumes nothing.
+use mathlib.Core.Path.{_≡_, refl, sym, ap, ap₂, subst, _∙_}
+use mathlib.Core.Bool.{Bool, true, false, not, cond, _&&_, _||_, false≢true}
 use mathlib.Core.List.{List, [], _∷_}
-use Prim.Native.Nat.{ℕ, _≤_, _<_}
+use Prim.Native.Nat.{ℕ, zero, suc, _+_, _-_, _*_, _/_, _%_, _≤_, _<_}
 use native.Mathlib.Omega.{arith}
-use lib.Bits.{bitAnd}
-use lib.Dec.{leb, ltb}
-use borrow.Author.Tests.{ne-eqb, lt-ltb, le-ltb, leb-true}
-use Rattle.flags.specs.Word.{flagsOf, isFlags}
-use Rattle.flags.specs.declared.word.Flags.{Flags}
-use Rattle.flags.proofs.Masks.{set-masked, set-unmasked}
-use Rattle.request.specs.Operation.{lookup, listed, widthOf, checked, operationOf}
-use Rattle.request.specs.Limits.{xMost, yMost}
-use Rattle.request.specs.Judge.{Raw, inLimits, requestOf, judgedBy, judged}
-use Rattle.request.specs.declared.operation.Width.the-variants.{Byte, Word}
+use lib.Dec.{leb, ltb, eqb}
+use borrow.Author.Tests.{ne-eqb, lt-ltb, leb-true, leb-false}
+use Rattle.flags.specs.Word.{isFlags}
+use Rattle.request.specs.Operation.{Listed, AluOp, Multiply, Divide, DecimalOp, Unlisted, ops, lookup, listed, checked, operationOf, aluOnly, aluAt}
+use Rattle.request.specs.Limits.{xMost, yMost, fitsIn, inLimits, InRange}
+use Rattle.request.specs.Judge.{requestOf, judgedBy, judged, Judged, Admitted, TooLarge}
+use Rattle.request.specs.declared.raw.Raw.{Raw}
+use Rattle.request.specs.declared.operation.Width.{Width}
+use Rattle.request.specs.declared.operation.Alu.{Alu}
 use Rattle.request.specs.declared.operation.Operation.{Operation}
-use Rattle.request.specs.declared.operation.Listed.{Listed}
-use Rattle.request.specs.declared.operation.Listed.the-variants.{Unlisted}
-use Rattle.request.specs.declared.operation.Named.{Named}
-use Rattle.request.specs.declared.operation.Named.the-variants.{Operation as Names, Unlisted as NotListed, WrongMode}
-use Rattle.request.specs.declared.judge.Request.{Request}
-use Rattle.request.specs.declared.judge.Judged.{Judged}
-use Rattle.request.specs.declared.judge.Judged.the-variants.{Admitted, TooLarge}
+use Rattle.request.specs.declared.operation.Operation.the-variants.{Alu as OfAlu, Multiply as OfMultiply, Divide as OfDivide, Decimal as OfDecimal}
+use Rattle.request.specs.declared.decode.Decoded.{Decoded}
+use Rattle.request.specs.declared.decode.Decoded.the-variants.{Operation as Names, Unlisted as NotListed, WrongMode}
+use Rattle.request.specs.declared.decode.AluAt.{AluAt}
+use Rattle.request.specs.declared.decode.AluAt.the-variants.{Named, Nothing}
+use Rattle.request.specs.declared.raw.Request.{Request}
+
+-- ---- tests of every number below another, by computation
+
+both : (a b : Bool) → (a && b) ≡ true → (a ≡ true) × (b ≡ true)
+both true true e = (refl, refl)
+both true false e = absurd (false≢true e)
+both false b e = absurd (false≢true e)
+
+abbrev pub below : (ℕ → Bool) → ℕ → Bool
+below test zero = true
+below test (suc n) = test 0 && below (λ k. test (suc k)) n
+
+pub at : (test : ℕ → Bool) (n : ℕ) → below test n ≡ true → (k : ℕ) → k < n → test k ≡ true
+at test zero h k l = absurd (omega arith)
+at test (suc n) h zero l = both (test 0) (below (λ k. test (suc k)) n) h .0
+at test (suc n) h (suc k) l = at (λ j. test (suc j)) n (both (test 0) (below (λ k. test (suc k)) n) h .1) k (omega arith)
 
 -- ---- the op
-
--- an op that is a row's is what the row says, as `listed` computes
-pub at-row : {op k : ℕ} → op ≡ k → listed k ≡ listed op
-at-row e = ap listed (sym e)
 
 -- an op that is no row's: N, and of each row that it is not the op's
 abbrev pub Missed : Type 0 → ℕ → List (ℕ × Listed) → Type 0
@@ -42,58 +52,180 @@ pub missed : (N : Type 0) (op : ℕ) (rows : List (ℕ × Listed)) → Missed N 
 missed N op [] m = refl
 missed N op (row ∷ rows) m = rw (ne-eqb op (row .0) (first op rows m .1)) (missed (N × (op ≡ row .0 → ⊥)) op rows m)
 
--- ---- the mode
+-- an op above 1C is not listed
+pub above : (op : ℕ) → 0x1C < op → Unlisted ≡ listed op
+unfolding listed ops
+above op h = missed (Unit {0}) op ops (omega arith)
 
-pub word-width : (mode : ℕ) → (bitAnd mode 0x01 ≡ 0 → ⊥) → Word ≡ widthOf mode
-word-width mode h = rw (set-masked 0 mode h)
+-- a mode above 08 is as wrong as 08
+pub over : (l : Listed) (mode : ℕ) → 0x07 < mode → checked l 0x08 ≡ checked l mode
+over (AluOp alu) mode h = rw (lt-ltb 0x01 mode (omega arith))
+over Multiply mode h = rw (lt-ltb 0x07 mode h)
+over Divide mode h = rw (lt-ltb 0x07 mode h)
+over (DecimalOp decimal) mode h = rw (lt-ltb 0x00 mode (omega arith))
+over Unlisted mode h = refl
 
-pub byte-width : (mode : ℕ) → bitAnd mode 0x01 ≡ 0 → Byte ≡ widthOf mode
-byte-width mode h = rw (set-unmasked 0 mode h)
-
--- what the match on the op told, and what the arm made of the mode
-pub named : (op mode : ℕ) {l k : Listed} → l ≡ listed op → l ≡ k → {r : Named} → r ≡ checked k mode → r ≡ operationOf op mode
+pub wrong-mode : (op mode : ℕ) → 0x07 < mode → operationOf op 0x08 ≡ operationOf op mode
 unfolding operationOf
-named op mode e told h = h ∙ ap (λ (x : Listed). checked x mode) (sym told ∙ e)
+wrong-mode op mode h = over (listed op) mode h
 
-pub over : (most mode : ℕ) (n : Named) → most < mode → WrongMode ≡ cond (ltb most mode) WrongMode n
-over most mode n h = rw (lt-ltb most mode h)
+-- ---- op and mode as one number
 
-pub up-to : (most mode : ℕ) {r n : Named} → mode ≤ most → r ≡ n → r ≡ cond (ltb most mode) WrongMode n
-up-to most mode h e = rw (le-ltb most mode h) e
+pub at-key : (op mode : ℕ) {key : ℕ} → mode ≤ 0x07 → op * 8 + mode ≡ key → operationOf (key / 8) (key % 8) ≡ operationOf op mode
+at-key op mode h e = ap₂ operationOf (omega arith) (omega arith)
 
--- ---- the ranges
+-- one of the keys of a match
+abbrev pub member : ℕ → List ℕ → Bool
+member key [] = false
+member key (k ∷ ks) = eqb key k || member key ks
 
--- what the match on the name told, and what the arm made of the rest
-pub judged-as : (r : Raw) {l k : Named} → l ≡ operationOf (r .op) (r .mode) → l ≡ k → {j : Judged} → j ≡ judgedBy k r → j ≡ judged r
-unfolding judged
-judged-as r e told h = h ∙ ap (λ (n : Named). judgedBy n r) (sym told ∙ e)
+-- none of them, as a match tells it
+abbrev pub NoneOf : Type 0 → ℕ → List ℕ → Type 0
+NoneOf N key [] = N
+NoneOf N key (k ∷ ks) = NoneOf (N × (key ≡ k → ⊥)) key ks
 
-module _ (operation : Operation) (r : Raw) {ok : Bool} (e : ok ≡ inLimits operation (r .flags) (r .x) (r .y)) where
-  pub admitted : ok ≡ true → {f : Flags} → f ≡ flagsOf (r .flags) → Admitted (record { operation = operation; flags = f; x = r .x; y = r .y }) ≡ judgedBy (Names operation) r
-  admitted t {f} ef = rw (← e, t) (λ i. Admitted (record { operation = operation; flags = ef i; x = r .x; y = r .y }))
+before : {N : Type 0} (key : ℕ) (ks : List ℕ) → NoneOf N key ks → N
+before key [] m = m
+before key (k ∷ ks) m = before key ks m .0
 
-  pub too-large : ok ≡ false → TooLarge ≡ judgedBy (Names operation) r
-  too-large t = rw (← e, t)
+pub none-of : (N : Type 0) (key : ℕ) (ks : List ℕ) → NoneOf N key ks → member key ks ≡ false
+none-of N key [] m = refl
+none-of N key (k ∷ ks) m = rw (ne-eqb key k (before key ks m .1)) (none-of (N × (key ≡ k → ⊥)) key ks m)
 
--- ---- what an admitted request is held to
+-- the keys of the ALU operations, and those of the others
+abbrev pub aluKeys : List ℕ
+aluKeys =
+    0x00 ∷ 0x01 ∷ 0x08 ∷ 0x09 ∷ 0x10 ∷ 0x11 ∷ 0x18 ∷ 0x19 ∷ 0x20 ∷ 0x21 ∷ 0x28 ∷ 0x29 ∷ 0x30 ∷ 0x31 ∷ 0x38 ∷ 0x39 ∷ 0x40 ∷ 0x41 ∷ 0x48 ∷ 0x49 ∷ 0x50 ∷ 0x51 ∷ 0x58 ∷ 0x59 ∷ 0x60 ∷ 0x61 ∷ []
 
-abbrev pub InRange : Operation → ℕ → ℕ → Type 0
-InRange operation x y = (x ≤ xMost operation) × (y ≤ yMost operation)
+abbrev pub otherKeys : List ℕ
+otherKeys =
+    0x80 ∷ 0x81 ∷ 0x82 ∷ 0x83 ∷ 0x84 ∷ 0x85 ∷ 0x86 ∷ 0x87 ∷ 0x88 ∷ 0x89 ∷ 0x8A ∷ 0x8B ∷ 0x8C ∷ 0x8D ∷ 0x8E ∷ 0x8F ∷ 0xC0 ∷ 0xC8 ∷ 0xD0 ∷ 0xD8 ∷ 0xE0 ∷ []
 
+abbrev isNothing : AluAt → Bool
+isNothing (Named alu w) = false
+isNothing Nothing = true
+
+nothing : (a : AluAt) → isNothing a ≡ true → Nothing ≡ a
+nothing (Named alu w) e = absurd (false≢true e)
+nothing Nothing e = refl
+
+-- the same refusal
+abbrev pub sameRefusal : Decoded → Decoded → Bool
+sameRefusal NotListed NotListed = true
+sameRefusal NotListed WrongMode = false
+sameRefusal NotListed (Names o) = false
+sameRefusal WrongMode WrongMode = true
+sameRefusal WrongMode NotListed = false
+sameRefusal WrongMode (Names o) = false
+sameRefusal (Names o) n = false
+
+same : (m n : Decoded) → sameRefusal m n ≡ true → m ≡ n
+same NotListed NotListed e = refl
+same NotListed WrongMode e = absurd (false≢true e)
+same NotListed (Names o) e = absurd (false≢true e)
+same WrongMode WrongMode e = refl
+same WrongMode NotListed e = absurd (false≢true e)
+same WrongMode (Names o) e = absurd (false≢true e)
+same (Names o) n e = absurd (false≢true e)
+
+-- the refusal of every op from one to another, by computation
+pub refuses : (r : Decoded) (start n : ℕ) → below (λ k. sameRefusal r (operationOf (start + k) 0x08)) n ≡ true → (op : ℕ) → start ≤ op → op < start + n
+    → r ≡ operationOf op 0x08
+refuses r start n h op l u =
+    let back : start + (op - start) ≡ op = omega arith in
+    same r (operationOf op 0x08)
+    (subst (λ (j : ℕ). sameRefusal r (operationOf j 0x08) ≡ true) back (at (λ k. sameRefusal r (operationOf (start + k) 0x08)) n h (op - start) (omega arith)))
+
+pub refuses-above : (op : ℕ) → 0x1D ≤ op → NotListed ≡ operationOf op 0x08
+unfolding operationOf
+refuses-above op h = rw (← above op (omega arith))
+
+-- at every key below E8, by computation: an ALU operation has an ALU key; what has neither key is refused, whatever the mode
+abbrev aluTest : ℕ → Bool
+aluTest key = member key aluKeys || isNothing (aluAt key)
+
+abbrev otherTest : ℕ → Bool
+otherTest key = not (isNothing (aluAt key)) || (member key otherKeys || sameRefusal (operationOf (key / 8) 0x08) (operationOf (key / 8) (key % 8)))
+
+alu-computed : below aluTest 0xE8 ≡ true
+unfolding aluAt operationOf listed ops
+alu-computed = refl
+
+other-computed : below otherTest 0xE8 ≡ true
+unfolding aluAt operationOf listed ops
+other-computed = refl
+
+or-right : (a b : Bool) → a ≡ false → (a || b) ≡ true → b ≡ true
+or-right true b e h = absurd (false≢true (sym e))
+or-right false b e h = h
+
+-- a key that is an arm's is what the arm says, as `aluAt` computes
+pub at-alu : {key k : ℕ} → key ≡ k → aluAt k ≡ aluAt key
+at-alu e = ap aluAt (sym e)
+
+-- no ALU key: no ALU operation
+pub no-alu : (key : ℕ) → member key aluKeys ≡ false → Nothing ≡ aluAt key
+unfolding aluAt operationOf
+no-alu key h = by (leb key 0xE7) refl
+  where
+    by : (k : Bool) → leb key 0xE7 ≡ k → Nothing ≡ aluAt key
+    by true e =
+        nothing (aluAt key) (or-right (member key aluKeys) (isNothing (aluAt key)) h (at aluTest 0xE8 alu-computed key (omega (arith, leb-true key 0xE7 e))))
+    by false e = rw (← above (key / 8) (omega (arith, leb-false key 0xE7 e)))
+
+-- an ALU operation, told by its key
+pub alu-named : (n : Decoded) {a : Alu} {w : Width} → Named a w ≡ aluOnly n → Names (OfAlu a w) ≡ n
+alu-named (Names (OfAlu alu v)) e = cc
+alu-named (Names (OfMultiply m)) e = absurd (let z : _≡_ {A = ℕ} 0 1 = cc in omega arith)
+alu-named (Names (OfDivide m)) e = absurd (let z : _≡_ {A = ℕ} 0 1 = cc in omega arith)
+alu-named (Names (OfDecimal d)) e = absurd (let z : _≡_ {A = ℕ} 0 1 = cc in omega arith)
+alu-named NotListed e = absurd (let z : _≡_ {A = ℕ} 0 1 = cc in omega arith)
+alu-named WrongMode e = absurd (let z : _≡_ {A = ℕ} 0 1 = cc in omega arith)
+
+pub alu-at : (op mode : ℕ) {a : Alu} {w : Width} → mode ≤ 0x07 → Named a w ≡ aluAt (op * 8 + mode) → Names (OfAlu a w) ≡ operationOf op mode
+unfolding aluAt
+alu-at op mode h e = alu-named (operationOf ((op * 8 + mode) / 8) ((op * 8 + mode) % 8)) e ∙ at-key op mode h refl
+
+-- no ALU operation and no other key: refused
+pub no-other : (op mode : ℕ) → mode ≤ 0x07 → Nothing ≡ aluAt (op * 8 + mode) → member (op * 8 + mode) otherKeys ≡ false
+    → operationOf op 0x08 ≡ operationOf op mode
+unfolding operationOf
+no-other op mode h a o = by (leb op 0x1C) refl
+  where
+    key : ℕ
+    key = op * 8 + mode
+
+    by : (k : Bool) → leb op 0x1C ≡ k → operationOf op 0x08 ≡ operationOf op mode
+    by true e =
+        let refused = operationOf (key / 8) 0x08 in
+        let found = operationOf (key / 8) (key % 8) in
+        let t = at otherTest 0xE8 other-computed key (omega (arith, leb-true op 0x1C e)) in
+        let u = or-right (not (isNothing (aluAt key))) (member key otherKeys || sameRefusal refused found) (ap (λ (b : AluAt). not (isNothing b)) (sym a)) t in
+        ap (λ (q : ℕ). operationOf q 0x08) (omega arith) ∙ same refused found (or-right (member key otherKeys) (sameRefusal refused found) o u) ∙ at-key op mode h refl
+    by false e = rw (← above op (leb-false op 0x1C e))
+
+-- ---- the limits
+
+-- what is within its limits is in its ranges
+pub in-range : (o : Operation) (f x y : ℕ) → inLimits o f x y ≡ true → InRange o x y
+in-range o f x y e =
+    let p = both (leb x (xMost o) && leb y (yMost o)) (isFlags f) e in
+    let q = both (leb x (xMost o)) (leb y (yMost o)) (p .0) in
+    (leb-true x (xMost o) (q .0), leb-true y (yMost o) (q .1))
+
+-- so is what is admitted
 pub admitted-in-range : (given : Raw) {j : Judged} {r : Request} → j ≡ judged given → j ≡ Admitted r → InRange (r .operation) (r .x) (r .y)
 unfolding judged
 admitted-in-range given {r = r} e told = by (operationOf (given .op) (given .mode)) (sym told ∙ e)
   where
-    tested : (o : Operation) (a b c : Bool) → leb (given .x) (xMost o) ≡ a → leb (given .y) (yMost o) ≡ b
-        → Admitted r ≡ cond (a && b && c) (Admitted (requestOf o given)) TooLarge → InRange (r .operation) (r .x) (r .y)
-    tested o true true true ex ey e =
+    tested : (o : Operation) (a : Bool) → inLimits o (given .flags) (given .x) (given .y) ≡ a
+        → Admitted r ≡ cond a (Admitted (requestOf o given)) TooLarge → InRange (r .operation) (r .x) (r .y)
+    tested o true ea e =
         let same : r ≡ requestOf o given = cc in
-        subst (λ (q : Request). InRange (q .operation) (q .x) (q .y)) (sym same) (leb-true (given .x) (xMost o) ex, leb-true (given .y) (yMost o) ey)
-    tested o true true false ex ey e = let z : _≡_ {A = ℕ} 0 1 = cc in absurd (omega arith)
-    tested o true false c ex ey e = let z : _≡_ {A = ℕ} 0 1 = cc in absurd (omega arith)
-    tested o false b c ex ey e = let z : _≡_ {A = ℕ} 0 1 = cc in absurd (omega arith)
+        subst (λ (q : Request). InRange (q .operation) (q .x) (q .y)) (sym same) (in-range o (given .flags) (given .x) (given .y) ea)
+    tested o false ea e = let z : _≡_ {A = ℕ} 0 1 = cc in absurd (omega arith)
 
-    by : (n : Named) → Admitted r ≡ judgedBy n given → InRange (r .operation) (r .x) (r .y)
-    by (Names o) e = tested o (leb (given .x) (xMost o)) (leb (given .y) (yMost o)) (isFlags (given .flags)) refl refl e
+    by : (n : Decoded) → Admitted r ≡ judgedBy n given → InRange (r .operation) (r .x) (r .y)
+    by (Names o) e = tested o (inLimits o (given .flags) (given .x) (given .y)) refl e
     by NotListed e = let z : _≡_ {A = ℕ} 0 1 = cc in absurd (omega arith)
     by WrongMode e = let z : _≡_ {A = ℕ} 0 1 = cc in absurd (omega arith)

@@ -1,6 +1,9 @@
 -- How large X and Y may be. A dividend has twice the width and AX has sixteen bits; any other X is as wide as the work. A count and AAD's
 -- byte are bytes at either width, and where there is no right operand Y is 0. Assumes nothing.
-use Prim.Native.Nat.{ℕ}
+use mathlib.Core.Bool.{Bool, _&&_}
+use Prim.Native.Nat.{ℕ, _≤_}
+use lib.Dec.{leb}
+use Rattle.flags.specs.Word.{isFlags}
 use Rattle.request.specs.declared.operation.Width.{Width}
 use Rattle.request.specs.declared.operation.Width.the-variants.{Byte, Word}
 use Rattle.request.specs.declared.operation.Alu.{Alu}
@@ -57,3 +60,15 @@ yMost (OfAlu alu w) = rightMost alu w
 yMost (Multiply m) = largest (m .width)
 yMost (Divide m) = largest (m .width)
 yMost (OfDecimal decimal) = adjustMost decimal
+
+-- X and Y at most so large, and no flag outside 08D5
+abbrev pub fitsIn : ℕ → ℕ → ℕ → ℕ → ℕ → Bool
+fitsIn most-x most-y flags x y = leb x most-x && leb y most-y && isFlags flags
+
+-- within the limits of an operation
+abbrev pub inLimits : Operation → ℕ → ℕ → ℕ → Bool
+inLimits operation flags x y = fitsIn (xMost operation) (yMost operation) flags x y
+
+-- X and Y alone
+abbrev pub InRange : Operation → ℕ → ℕ → Type 0
+InRange operation x y = (x ≤ xMost operation) × (y ≤ yMost operation)

@@ -1,19 +1,29 @@
 -- The ops and modes of the scope, and the operation that they name. Assumes nothing.
-use mathlib.Core.Bool.{cond}
+use mathlib.Core.Bool.{Bool, cond}
 use mathlib.Core.List.{List, [], _∷_}
-use Prim.Native.Nat.{ℕ}
+use Prim.Native.Nat.{ℕ, _/_, _%_}
 use lib.Dec.{eqb, ltb}
 use Rattle.flags.specs.Numbers.{isSet}
 use Rattle.request.specs.declared.operation.Width.{Width}
 use Rattle.request.specs.declared.operation.Width.the-variants.{Byte, Word}
 use Rattle.request.specs.declared.operation.Mode.{Mode}
+use Rattle.request.specs.declared.operation.Alu.{Alu}
 use Rattle.request.specs.declared.operation.Alu.the-variants.{Add, Adc, Sub, Sbb, Neg, Shl, Shr, Sar, Rol, Ror, Rcl, Rcr, ShlAf}
+use Rattle.request.specs.declared.operation.Decimal.{Decimal}
 use Rattle.request.specs.declared.operation.Decimal.the-variants.{Aaa, Aas, Aad, Daa, Das}
 use Rattle.request.specs.declared.operation.Operation.the-variants.{Alu as OfAlu, Multiply as OfMultiply, Divide as OfDivide, Decimal as OfDecimal}
-use Rattle.request.specs.declared.operation.Listed.{Listed}
-use Rattle.request.specs.declared.operation.Listed.the-variants.{Alu as AluOp, Multiply, Divide, Decimal as DecimalOp, Unlisted}
-use Rattle.request.specs.declared.operation.Named.{Named}
-use Rattle.request.specs.declared.operation.Named.the-variants.{Operation as Names, Unlisted as NotListed, WrongMode}
+use Rattle.request.specs.declared.decode.Decoded.{Decoded}
+use Rattle.request.specs.declared.decode.Decoded.the-variants.{Operation as Names, Unlisted as NotListed, WrongMode}
+use Rattle.request.specs.declared.decode.AluAt.{AluAt}
+use Rattle.request.specs.declared.decode.AluAt.the-variants.{Named, Nothing}
+
+-- what an op alone names
+pub data Listed : Type 0 where
+  AluOp : Alu → Listed
+  Multiply : Listed
+  Divide : Listed
+  DecimalOp : Decimal → Listed
+  Unlisted : Listed
 
 -- the ops that there are, and what each names
 unfoldable pub ops : List (ℕ × Listed)
@@ -45,7 +55,7 @@ abbrev pub lookup : ℕ → List (ℕ × Listed) → Listed
 lookup op [] = Unlisted
 lookup op (row ∷ rows) = cond (eqb op (row .0)) (row .1) (lookup op rows)
 
--- what an op alone names
+-- the row of an op
 unfoldable pub listed : ℕ → Listed
 listed op = lookup op ops
 
@@ -59,7 +69,7 @@ modeOf mode = record { width = widthOf mode; signed = isSet 1 mode; rep = isSet 
 
 -- an op that is not listed comes before a wrong mode; the ALU operations have a width, multiply and divide a sign rule and REP besides, the
 -- adjusts nothing
-abbrev pub checked : Listed → ℕ → Named
+abbrev pub checked : Listed → ℕ → Decoded
 checked (AluOp alu) mode = cond (ltb 0x01 mode) WrongMode (Names (OfAlu alu (widthOf mode)))
 checked Multiply mode = cond (ltb 0x07 mode) WrongMode (Names (OfMultiply (modeOf mode)))
 checked Divide mode = cond (ltb 0x07 mode) WrongMode (Names (OfDivide (modeOf mode)))
@@ -67,5 +77,23 @@ checked (DecimalOp decimal) mode = cond (ltb 0x00 mode) WrongMode (Names (OfDeci
 checked Unlisted mode = NotListed
 
 -- what op and mode name
-unfoldable pub operationOf : ℕ → ℕ → Named
+unfoldable pub operationOf : ℕ → ℕ → Decoded
 operationOf op mode = checked (listed op) mode
+
+-- for the code, which takes op and mode as one number, op * 8 + mode: the ALU operation there
+abbrev pub aluOnly : Decoded → AluAt
+aluOnly (Names (OfAlu alu w)) = Named alu w
+aluOnly (Names (OfMultiply m)) = Nothing
+aluOnly (Names (OfDivide m)) = Nothing
+aluOnly (Names (OfDecimal d)) = Nothing
+aluOnly NotListed = Nothing
+aluOnly WrongMode = Nothing
+
+unfoldable pub aluAt : ℕ → AluAt
+aluAt key = aluOnly (operationOf (key / 8) (key % 8))
+
+abbrev pub multiplies : Width → Bool → Bool → Decoded
+multiplies w signed rep = Names (OfMultiply (record { width = w; signed = signed; rep = rep }))
+
+abbrev pub divides : Width → Bool → Bool → Decoded
+divides w signed rep = Names (OfDivide (record { width = w; signed = signed; rep = rep }))

@@ -1,5 +1,5 @@
-// A request in memory, and the judging of a raw one: statuses 3, 4 and 5, in that order. No caller has
-// checked anything.
-pub mod judge;
-pub mod limits;
+// A request in memory, the operation that an op and a mode name (statuses 3 and 4), and whether X, Y and the
+// flags fit (status 5). No caller has checked anything.
+pub mod decode;
 pub mod operation;
+pub mod raw;

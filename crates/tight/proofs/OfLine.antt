@@ -6,7 +6,7 @@ use Rattle.tight.proofs.Law.{plainly, same}
 
 module _ {M : Type 1} where
   pub one-write-answer : Tight M one.write_answer.signature one.write_answer.clauses
-  one-write-answer c g r s = plainly (c .𝓤) (λ e d. (same (e .0) (d .0), λ i. (tt, (tt, (same (e .1) (d .1) i, tt)))))
+  one-write-answer c g r s = plainly (c .𝓤) (λ e d. (same (e .0) (d .0), λ i. (tt, (tt, (tt, (same (e .1) (d .1) i, tt))))))
 
   pub one-answer-line : Tight M one.answer_line.signature one.answer_line.clauses
   one-answer-line c g r s = plainly (c .𝓤) (λ e d. (same (e .0) (d .0), λ i. (tt, (same (e .1) (d .1) i, tt))))

@@ -9,10 +9,10 @@ returns : tie.Need-returns
 returns c = c .answer-fields .ensures ∙ ap answerBy (sym (c .before .before .read .given .1))
 
 returns-2 : tie.Need-returns-2
-returns-2 c = c .refused .ensures ∙ ap answerBy (sym (c .before .enum-told .given .1))
+returns-2 c = c .zeros .ensures ∙ ap answerBy (sym (c .before .enum-told .given .1))
 
 returns-3 : tie.Need-returns-3
-returns-3 c = c .refused2 .ensures ∙ ap answerBy (sym (c .before .enum-told2 .given .1))
+returns-3 c = c .zeros2 .ensures ∙ ap answerBy (sym (c .before .enum-told2 .given .1))
 
 pub answer-read-spec : {M : Type 1} → statement M
 answer-read-spec =

@@ -19,11 +19,11 @@ use Rattle.line.proofs.run.run_by.Statement.{statement}
 use Rattle.line.proofs.run.run_by.Tie as tie
 
 abbrev Inv-loop : tie.InvT-loop
-Inv-loop digits capitals text out₀ at-end room answered₀ used₀ out answered used =
+Inv-loop digits capitals parity text out₀ at-end room answered₀ used₀ out answered used =
     (answered ≤ room) × (used ≤ length text) × (room ≡ length out₀ / 19) × (length out ≡ length out₀) × (after (take (answered * 19) out) answered used (runOf (room - answered) at-end (drop used text) (drop (answered * 19) out)) ≡ runOf room at-end text out₀)
 
 abbrev μ-loop : tie.MeasureT-loop
-μ-loop digits capitals text out₀ at-end room answered₀ used₀ out answered used = room - answered
+μ-loop digits capitals parity text out₀ at-end room answered₀ used₀ out answered used = room - answered
 
 loop-holds : tie.Need-loop-holds Inv-loop μ-loop
 loop-holds c = (omega arith, omega arith, refl, refl, simp (sub-zero, zero-add))
@@ -41,6 +41,10 @@ next c =
     let a = c .before .before .before .before .before .before .args in
     c .next-start .ensures ∙ next-takes (a .text .now) (l .used) (c .before .read-at .result .end) (a .at-end) (l .inv .1) (ap (λ (f : Found). f .end) (c .before .read-at .ensures))
 
+-- the two tables, and room for 19 bytes
+writes : tie.Need-write-answer-requires Inv-loop μ-loop
+writes c κs = let given = c .before .before .before .before .before .before .before .before .pre in (given .1 .0, (given .1 .1, search needs))
+
 loop-again : tie.Need-loop-again Inv-loop μ-loop
 loop-again c =
     let n = c .before .before .before .before .before in
@@ -53,8 +57,8 @@ loop-again c =
       omega arith,
       omega (arith, next n, takes-within (a .at-end) rest, length-drop (l .used) (a .text .now)),
       refl,
-      same-len-mid at k (l .out) (lent .last .1 .1 .0) (lent .kept .1 .1 .0) ∙ l .inv .3,
-      again textOf textOf-length (a .text .now) (l .out) (lent .last .1 .1 .0) (length (a .out .now) / 19) (l .answered) (l .used) (n .next-start .result) k (a .at-end) (omega arith) (next n) (c .before .before .before .before .if1 .left) (omega arith) (omega arith) (lent .ensures .1 ∙ line-answer (a .text .now) (l .used) (n .before .read-at .result .read) _ (ap (λ (f : Found). f .read) (n .before .read-at .ensures))) (l .inv .4),
+      same-len-mid at k (l .out) (lent .last .1 .1 .1 .0) (lent .kept .1 .1 .1 .0) ∙ l .inv .3,
+      again textOf textOf-length (a .text .now) (l .out) (lent .last .1 .1 .1 .0) (length (a .out .now) / 19) (l .answered) (l .used) (n .next-start .result) k (a .at-end) (omega arith) (next n) (c .before .before .before .before .if1 .left) (omega arith) (omega arith) (lent .ensures .1 ∙ line-answer (a .text .now) (l .used) (n .before .read-at .result .read) _ (ap (λ (f : Found). f .read) (n .before .read-at .ensures))) (l .inv .4),
     )
 
 returns : tie.Need-returns Inv-loop μ-loop
@@ -73,5 +77,5 @@ pub run-by-spec : {M : Type 1} → statement M
 run-by-spec =
     tie.close
     (tie.spec Inv-loop μ-loop loop-holds (λ c κs. search needs) (λ c κs. search needs) (λ c. omega arith) (λ c. omega arith) (λ c. omega arith)
-    (λ c. omega arith) (λ c. omega arith) (λ c κs. search needs) (λ c. omega arith) (λ c. omega arith) loop-again (λ c. search needs) returns
+    (λ c. omega arith) (λ c. omega arith) writes (λ c. omega arith) (λ c. omega arith) loop-again (λ c. search needs) returns
     (λ c. search needs) returns-2)

@@ -8,7 +8,7 @@ good : tie.Need-returns
 good c = rw (sym (c .before .is-flags .ensures) ∙ c .if1 .taken)
 
 bad : tie.Need-returns-2
-bad c = rw (sym (c .before .before .is-flags .ensures) ∙ c .before .if1 .left) (c .refused .ensures)
+bad c = rw (sym (c .before .before .is-flags .ensures) ∙ c .before .if1 .left) (c .zeros .ensures)
 
 pub checked-spec : {M : Type 1} → statement M
 checked-spec = tie.close (tie.spec (λ c κs. search needs) good (λ c κs. search needs) bad)

@@ -1,9 +1,0 @@
--- `answer::alu_answer::of_c16` meets its contract: a plain answer with C set. Assumes nothing.
-use borrow.Author.Needs.{needs}
-use Rattle.answer.proofs.AnswerLaws.{plain-with}
-use Rattle.answer.proofs.alu_answer.of_c16.Statement.{statement}
-use Rattle.answer.proofs.alu_answer.of_c16.Tie as tie
-
-pub of-c16-spec : {M : Type 1} → statement M
-of-c16-spec =
-    tie.close (tie.spec (λ c κs. search needs) (λ c κs. search needs) (λ c. plain-with (c .before .with-c .ensures) (c .before .before .args .made .result) (c .plain .ensures)))
