@@ -37,7 +37,7 @@ digit-no-feed b h = no-feed b (digit-below b ∙ h)
 -- ---- a list of digits
 
 -- one after another
-appended : (s t : List ℕ) → allDigits (s ++ t) ≡ allDigits s && allDigits t
+pub appended : (s t : List ℕ) → allDigits (s ++ t) ≡ allDigits s && allDigits t
 appended [] t = refl
 appended (b ∷ s) t = ap (λ (x : Bool). isDigit b && x) (appended s t) ∙ sym (and-assoc (isDigit b) (allDigits s) (allDigits t))
 

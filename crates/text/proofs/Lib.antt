@@ -1,5 +1,8 @@
+pub mod CapitalLaws
 pub mod DigitsAt
+pub mod EightLaws
 pub mod FoundLaws
+pub mod LaneLaws
 pub mod LineLaws
 pub mod NextLine
 pub mod Plain

@@ -38,11 +38,11 @@ is-below b h = ltb-true (digitOf b) 16 (digit-below b ∙ h)
 
 -- four bytes
 module _ (a b c d : ℕ) where
-  abbrev four : ℕ
+  abbrev pub four : ℕ
   four = fourOf (digitOf a) (digitOf b) (digitOf c) (digitOf d)
 
   -- each of them a digit
-  abbrev areFour : Bool
+  abbrev pub areFour : Bool
   areFour = isDigit a && isDigit b && isDigit c && isDigit d
 
   are-below : areFour ≡ true → (digitOf a < 16) × (digitOf b < 16) × (digitOf c < 16) × (digitOf d < 16)
@@ -52,7 +52,7 @@ module _ (a b c d : ℕ) where
       let x = both (isDigit a) (isDigit b) (y .0) in
       (is-below a (x .0), is-below b (x .1), is-below c (y .1), is-below d (z .1))
 
-  four-value : areFour ≡ true → four ≡ digitOf a * 0x1000 + digitOf b * 0x100 + digitOf c * 0x10 + digitOf d
+  pub four-value : areFour ≡ true → four ≡ digitOf a * 0x1000 + digitOf b * 0x100 + digitOf c * 0x10 + digitOf d
   unfolding fourOf
   four-value e = rw (digit-below a, digit-below b, digit-below c, digit-below d, e)
 
@@ -65,7 +65,7 @@ module _ (a b c d : ℕ) where
       by true e = let h = are-below e in lt-ltb four 0x1_0000 (omega (arith, four-value e))
       by false e = rw (digit-below a, digit-below b, digit-below c, digit-below d, e)
 
-  first-four : (rest : List ℕ) → allDigits (a ∷ b ∷ c ∷ d ∷ rest) ≡ areFour && allDigits rest
+  pub first-four : (rest : List ℕ) → allDigits (a ∷ b ∷ c ∷ d ∷ rest) ≡ areFour && allDigits rest
   first-four rest = by (isDigit a) (isDigit b) (isDigit c) (isDigit d)
     where
       by : (w x y z : Bool) → w && (x && (y && (z && allDigits rest))) ≡ w && x && y && z && allDigits rest

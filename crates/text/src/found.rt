@@ -27,24 +27,23 @@ fn sought(table: &[u8; 256], text: &[u8], from: usize) -> Found
 }
 
 // Where 20 digits stand before a line feed no other is looked for: a line feed is no digit. Nearly every
-// line of a good text is of this kind.
+// line of a good text is of this kind. All others are sought in one place, which the compiler keeps out of
+// the way.
 pub fn read_at(table: &[u8; 256], text: &[u8], from: usize) -> Found
     requires { ⌜ DigitTable (now table) ⌝ }
     requires { ⌜ from ≤ length (now text) ⌝ }
     ensures { λ r. ⌜ r ≡ foundOf (now (text .entry)) from ⌝ }
 {
-    if text.len() - from < 21 {
-        return sought(table, text, from);
-    }
-    if text[from + 20] != b'\n' {
-        return sought(table, text, from);
-    }
-    let read = fields::fields_at(table, text, from);
-    if let Read::Fields(_) = read {
-        return Found {
-            read,
-            end: from + 20,
-        };
+    if text.len() - from >= 21 {
+        if text[from + 20] == b'\n' {
+            let read = fields::fields_at(table, text, from);
+            if let Read::Fields(_) = read {
+                return Found {
+                    read,
+                    end: from + 20,
+                };
+            }
+        }
     }
     sought(table, text, from)
 }

@@ -5,19 +5,36 @@ ghost use Prim.Native.Nat.{_+_, _≤_};
 ghost use lib.ListN.{length, drop};
 ghost use lib.Seq.{sets};
 ghost use Rattle.text.specs.Digits.{CapitalTable, capitalOf};
+ghost use Rattle.text.specs.Lanes.{lanes};
 ghost use Rattle.text.specs.Written.{four, written};
 use crate::digits;
 
-// The four digits of `number` go in from `at`, the high one first.
-fn put_four(table: &[u8; 16], number: u16, out: &mut [u8], at: usize)
-    requires { ⌜ CapitalTable (now table) ⌝ }
-    requires { ⌜ at + 4 ≤ length (now out) ⌝ }
-    ensures { λ _. ⌜ now (out .exit) ≡ sets (now (out .entry)) at (four capitalOf number) ⌝ }
+// The eight digits of two numbers, a byte each, the first digit lowest. The numbers are taken apart into
+// bytes, and these into digits. 6 more than a digit above 9 has bit 4 set, and its letter is 7 further on.
+fn eight_capitals(first: u16, second: u16) -> u64
+    ensures { λ r. ⌜ r ≡ lanes 8 (four capitalOf first ++ four capitalOf second) ⌝ }
 {
-    out[at] = digits::capital(table, number / 0x1000);
-    out[at + 1] = digits::capital(table, number / 0x100 % 0x10);
-    out[at + 2] = digits::capital(table, number / 0x10 % 0x10);
-    out[at + 3] = digits::capital(table, number % 0x10);
+    let q = first as u64 + second as u64 * 0x1_0000_0000;
+    let p = (q & 0x0000_FF00_0000_FF00) / 0x100 + (q & 0x0000_00FF_0000_00FF) * 0x1_0000;
+    let n = (p & 0x00F0_00F0_00F0_00F0) / 0x10 + (p & 0x000F_000F_000F_000F) * 0x100;
+    n + 0x3030_3030_3030_3030 + ((n + 0x0606_0606_0606_0606) & 0x1010_1010_1010_1010) / 0x10 * 7
+}
+
+// The four digits of `first` and those of `second` go in from `at`. Stores that stand side by side, the
+// lowest byte first, are one to the compiler.
+fn put_eight(first: u16, second: u16, out: &mut [u8], at: usize)
+    requires { ⌜ at + 8 ≤ length (now out) ⌝ }
+    ensures { λ _. ⌜ now (out .exit) ≡ sets (now (out .entry)) at (four capitalOf first ++ four capitalOf second) ⌝ }
+{
+    let c = eight_capitals(first, second);
+    out[at] = (c % 0x100) as u8;
+    out[at + 1] = (c / 0x100 % 0x100) as u8;
+    out[at + 2] = (c / 0x1_0000 % 0x100) as u8;
+    out[at + 3] = (c / 0x100_0000 % 0x100) as u8;
+    out[at + 4] = (c / 0x1_0000_0000 % 0x100) as u8;
+    out[at + 5] = (c / 0x100_0000_0000 % 0x100) as u8;
+    out[at + 6] = (c / 0x1_0000_0000_0000 % 0x100) as u8;
+    out[at + 7] = (c / 0x100_0000_0000_0000 % 0x100) as u8;
 }
 
 // Bytes after the 19th stay as they were.
@@ -28,9 +45,7 @@ pub fn write(table: &[u8; 16], status: u8, flags: u16, steps: u16, r: u16, s: u1
 {
     out[0] = digits::capital(table, (status / 0x10) as u16);
     out[1] = digits::capital(table, (status % 0x10) as u16);
-    put_four(table, flags, out, 2);
-    put_four(table, steps, out, 6);
-    put_four(table, r, out, 10);
-    put_four(table, s, out, 14);
+    put_eight(flags, steps, out, 2);
+    put_eight(r, s, out, 10);
     out[18] = b'\n';
 }

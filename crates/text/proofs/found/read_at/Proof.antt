@@ -8,8 +8,8 @@ use Rattle.text.proofs.FoundLaws.{found-there}
 use Rattle.text.proofs.found.read_at.Statement.{statement}
 use Rattle.text.proofs.found.read_at.Tie as tie
 
-returns-3 : tie.Need-returns-3
-returns-3 c =
+returns : tie.Need-returns
+returns c =
     let read = c .before .before .fields-at in
     let a = c .before .before .before .before .before .before .before .args in
     ap (λ (r : Read). record { read = r; end = a .from + 20 }) (read .ensures) ∙ found-there (a .text .now) (a .from) _ (omega arith) (search needs) (sym (read .ensures) ∙ c .enum-told .given .1)
@@ -17,5 +17,5 @@ returns-3 c =
 pub read-at-spec : {M : Type 1} → statement M
 read-at-spec =
     tie.close
-    (tie.spec (λ c. search needs) (λ c κs. search needs) (λ c. search needs) (λ c. search needs) (λ c. search needs) (λ c κs. search needs)
-    (λ c. search needs) (λ c κs. search needs) (λ c. search needs) (λ c. search needs) returns-3 (λ c κs. search needs) (λ c. search needs))
+    (tie.spec (λ c. search needs) (λ c. search needs) (λ c. search needs) (λ c κs. search needs) (λ c. search needs) (λ c. search needs) returns
+    (λ c κs. search needs) (λ c. search needs))
