@@ -78,6 +78,21 @@ pub fn run(mut input: impl Read, output: impl Write) -> io::Result<()> {
     out.flush()
 }
 
+/// Answers every line of a text that is all there, into room for its answers.
+pub fn answer_text(text: &[u8], room: &mut [u8]) -> io::Result<()> {
+    let mut out = Answers::new(room);
+    let at = lines(text, &mut out)?;
+    if at < text.len() {
+        out.put(&answer(&text[at..]))?;
+    }
+    out.flush()
+}
+
+/// Answers one line, which stands without its feed.
+pub fn answer_line(line: &[u8]) -> [u8; ANSWER] {
+    written(&answer(line))
+}
+
 /// Answers the whole lines of a text and returns how many bytes they are.
 fn lines<W: Write>(text: &[u8], out: &mut Answers<W>) -> io::Result<usize> {
     let mut at = 0;

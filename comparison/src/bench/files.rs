@@ -30,7 +30,7 @@ pub fn make(kind: Kind, lines: u64, path: &Path) -> io::Result<()> {
     file.flush()
 }
 
-fn write(kind: Kind, lines: u64, out: &mut impl Write) -> io::Result<()> {
+pub fn write(kind: Kind, lines: u64, out: &mut impl Write) -> io::Result<()> {
     let mut draw = Draw::new(1);
     let is_kept = |operation: &Operation| match kind {
         Kind::Divides => matches!(operation, Operation::Divide(_)),

@@ -9,6 +9,7 @@ mod files;
 #[cfg(feature = "functions")]
 pub mod functions;
 mod keys;
+pub mod lines;
 mod memory;
 pub mod packed;
 pub mod programs;

@@ -4,6 +4,7 @@ use comparison::bench::answers;
 use comparison::bench::calls;
 #[cfg(feature = "functions")]
 use comparison::bench::functions;
+use comparison::bench::lines;
 use comparison::bench::packed;
 use comparison::bench::programs::Programs;
 use comparison::bench::registers;
@@ -17,6 +18,7 @@ Times the port beside MartyPC's own Rust, or beside plain Rust where MartyPC has
 use:
   bench functions                               bare functions, where the feature of that name is on
   bench calls                                   one call at a time, by operation
+  bench lines                                   request lines from memory, as a text and one by one
   bench packed                                  packed digits, by operation and length
   bench answers                                 answer lines read back, good ones and malformed
   bench trap                                    what would trap, by divide and keys
@@ -34,6 +36,7 @@ fn main() -> ExitCode {
         #[cfg(feature = "functions")]
         ["functions"] => functions::print(),
         ["calls"] => calls::print(),
+        ["lines"] => lines::print(),
         ["packed"] => packed::print(),
         ["answers"] => answers::print(),
         ["trap"] => trap::print(),

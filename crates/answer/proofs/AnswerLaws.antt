@@ -7,7 +7,6 @@ use native.Mathlib.Nat.{mod-eq-of-lt}
 use native.Mathlib.Omega.{arith}
 use Rattle.flags.specs.Word.{flagsOf}
 use Rattle.flags.specs.declared.word.Flags.{Flags}
-use Rattle.alu.specs.Result.{ResultC, ResultCo, ResultCoa}
 use Rattle.multiply.specs.Routines.{Multiplied}
 use Rattle.multiply.specs.Multiply.{multiply}
 use Rattle.divide.specs.Divide.{DivideOutcome, Divided, refused, divide}
@@ -30,15 +29,11 @@ use Rattle.request.specs.declared.raw.Request.{Request}
 use Rattle.request.specs.declared.decode.Decoded.{Decoded}
 use Rattle.request.specs.declared.decode.Decoded.the-variants.{Operation as Names, Unlisted as NotListed, WrongMode as BadMode}
 use Rattle.request.proofs.RequestLaws.{in-range}
-use Rattle.answer.specs.Charted.{wholeOf, plainOf, ofC, ofCo, ofCoa, aluOf, ofProduct8, ofProduct16, refusalStatus, ofOutcome, ofDivided, ofAdjusted, adjustOf, multipliedOf, dividedOf, limitedTo, chartedBy, charted, chartedAs}
+use Rattle.answer.specs.Charted.{wholeOf, aluOf, ofProduct8, ofProduct16, refusalStatus, ofOutcome, ofDivided, ofAdjusted, adjustOf, multipliedOf, dividedOf, limitedTo, chartedBy, charted, chartedAs}
 use Rattle.answer.specs.Asked.{zeros, ofJudged, asked}
 use Rattle.answer.specs.declared.answer.Answer.{Answer}
 
 -- ---- the ALU
-
--- flags that an operation set, in a plain answer
-pub plain-with : {g h : Flags} → g ≡ h → (r : ℕ) {a : Answer} → a ≡ plainOf g r → a ≡ plainOf h r
-plain-with e r p = p ∙ ap (λ (f : Flags). plainOf f r) e
 
 -- an answer within limits, worked out
 pub limited-with : (most-x most-y : ℕ) (q : Request) {b c : Answer} → b ≡ c → {a : Answer} → a ≡ limitedTo most-x most-y q b → a ≡ limitedTo most-x most-y q c
@@ -165,7 +160,7 @@ pub by-adjust : (q : Request) {f : Flags} → f ≡ flagsOf (q .flags) → {deci
 by-adjust q {f} ef {decimal} {k} told e p =
     told-as q (ap OfDecimal told)
     (uncut-as (OfDecimal k) q (q .x % 0x1_0000) (q .y % 0x100) (λ h. uncut 0x1_0000 (q .x) refl h (omega arith)) (λ h. uncut 0x100 (q .y) refl h (omega (arith, adjust-byte k)))
-    (limited-with 0xFFFF (adjustMost k) q (ap ofAdjusted (e ∙ ap (λ (g : Flags). adjustOf k (q .x % 0x1_0000) (q .y % 0x100) g) ef)) p))
+    (limited-with 0xFFFF (adjustMost k) q (ap ofAdjusted (e ∙ ap (adjustOf k (q .x % 0x1_0000) (q .y % 0x100)) ef)) p))
 
 -- what is answered to a name
 abbrev answeredBy : Decoded → Raw → Answer

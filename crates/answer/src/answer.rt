@@ -1,5 +1,5 @@
-// An answer: where results, flags, steps and statuses stand. The flags that an operation names go over those
-// handed in; an ALU operation counts no step.
+// An answer, and how it is made from what an operation returns: which result is R and which S, the flags, the steps
+// and the status. The flags that an operation sets replace those of the request; the others stay.
 ghost use mathlib.Core.Path.{_≡_};
 ghost use Rattle.divide.specs.Views.{divided8, divided16};
 ghost use Rattle.multiply.specs.Views.{product8, product16};
@@ -31,7 +31,7 @@ pub struct Answer {
     pub s: u16,
 }
 
-// The one place where an answer's flags are put into their word.
+// The one place that makes a word of an answer's flags.
 fn whole(status: u8, flags: Flags, steps: u16, r: u16, s: u16) -> Answer
     ensures { λ a. ⌜ a ≡ wholeOf status flags steps r s ⌝ }
 {
@@ -44,7 +44,7 @@ fn whole(status: u8, flags: Flags, steps: u16, r: u16, s: u16) -> Answer
     }
 }
 
-// A refusal before any operation ran: no flags, steps or results.
+// A refusal before any operation ran: flags, steps and results are 0.
 pub fn zeros(status: u8) -> Answer
     ensures { λ a. ⌜ a ≡ zerosOf status ⌝ }
 {
@@ -57,14 +57,14 @@ pub fn zeros(status: u8) -> Answer
     }
 }
 
-// Status 0, no step and one result.
+// Status 0, no steps and one result.
 pub fn plain(flags: Flags, r: u16) -> Answer
     ensures { λ a. ⌜ a ≡ plainOf flags r ⌝ }
 {
     whole(0, flags, 0, r, 0)
 }
 
-// What is answered within the limits of X, Y and the flags, and 5 outside them.
+// The answer `a` if X, Y and the flags are within their limits. If not, status 5.
 pub fn limited(request: Request, x_most: u32, y_most: u16, a: Answer) -> Answer
     ensures { λ r. ⌜ r ≡ limitedTo «x_most» «y_most» request a ⌝ }
 {
@@ -74,7 +74,7 @@ pub fn limited(request: Request, x_most: u32, y_most: u16, a: Answer) -> Answer
     zeros(5)
 }
 
-// The ALU operations: X is as wide as the work, and how large Y may be is the operation's.
+// The six below answer an ALU operation. X may be as wide as the operation; `y_most` is its limit of Y.
 pub fn of_c8(made: ResultC8, request: Request, y_most: u16) -> Answer
     ensures { λ a. ⌜ a ≡ limitedTo 0xFF «y_most» request (ofC (c8 made) (flagsOf (request .flags))) ⌝ }
 {

@@ -1,4 +1,4 @@
-// Raw requests answered, which no caller has checked: the table of statuses from 3 on.
+// Answers raw requests, which no caller has checked: the table of statuses from 3 on.
 ghost use mathlib.Core.Path.{_≡_};
 ghost use Rattle.flags.specs.Parity.{ParityTable};
 ghost use Rattle.answer.specs.Asked.{asked, statusOf, partsOf};
@@ -29,8 +29,8 @@ fn answer_raw(raw: Raw, table: &[u8; 256]) -> Answer
     }
 }
 
-// In parts: flags, steps, R and S are written, and the status is returned. It is the one caller of
-// `answer_raw`, so that the two are compiled into one and no answer is copied.
+// Returns the status and writes flags, steps, R and S. It is the only caller of `answer_raw`, so the compiler makes
+// one function of the two and copies no answer.
 pub fn ask_into(
     op: u8,
     mode: u8,
@@ -57,7 +57,7 @@ pub fn ask_into(
     a.status
 }
 
-// The same as a record.
+// The same answer as a record.
 pub fn ask(raw: Raw, table: &[u8; 256]) -> Answer
     requires { ⌜ ParityTable (now table) ⌝ }
     ensures { λ a. ⌜ a ≡ asked raw ⌝ }

@@ -1,6 +1,6 @@
-// The charts: what each operation answers, and how large its operands may be. They are cut to its width, which
-// changes none within its limits. Whether they are is asked in each arm, with the numbers of that operation:
-// so nothing stands between the jump that leads to an operation and its work.
+// The charts: each operation's work and the limits of its operands. Operands are cut to the operation's width, which
+// changes none that is within its limits. Each arm checks its own limits, so that no code stands between the jump to
+// an operation and its work.
 ghost use mathlib.Core.Path.{_≡_};
 ghost use Rattle.flags.specs.Parity.{ParityTable};
 ghost use Rattle.flags.specs.Word.{flagsOf};
@@ -58,7 +58,7 @@ fn alu8(alu: Alu, request: Request) -> Answer
     }
 }
 
-// The count of a shift is a byte; a right operand may be a word.
+// A right operand may be a word; a shift's count is a byte.
 fn alu16(alu: Alu, request: Request) -> Answer
     ensures { λ a. ⌜ a ≡ chartedAs (OfAlu alu Word) request ⌝ }
 {
@@ -189,7 +189,7 @@ fn adjusted(decimal: Decimal, request: Request, table: &[u8; 256]) -> Answer
     }
 }
 
-// The answer to a request: its chart's, or 5 where X, Y or the flags are not within their limits.
+// Answers a request by the chart of its operation, or with 5 if X, Y or the flags exceed their limits.
 pub fn chart(request: Request, table: &[u8; 256]) -> Answer
     requires { ⌜ ParityTable (now table) ⌝ }
     ensures { λ a. ⌜ a ≡ chartedAs (request .operation) request ⌝ }

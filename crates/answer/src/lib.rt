@@ -1,4 +1,4 @@
-// The answer to a request: the charts, by the operation that it names.
+// Answers requests: a record for the answer, the charts by operation, and raw requests.
 pub mod answer;
 pub mod ask;
 pub mod chart;

@@ -1,6 +1,6 @@
-// CORD, the microcode's divide of magnitudes, after cpu_808x/muldiv.rs of MartyPC: the dividend leaves
-// its register by the left, a bit a round, as the quotient comes in from the right. The chip gathers
-// the quotient's complement and turns it at the end; here the quotient itself is gathered.
+// CORD, the microcode's divide of magnitudes, after cpu_808x/muldiv.rs of MartyPC. Each round shifts one bit of
+// the dividend out on the left and one bit of the quotient in on the right. The chip collects the quotient's
+// complement and inverts it at the end; here the quotient itself is collected.
 ghost use mathlib.Core.Path.{_≡_};
 ghost use Prim.Native.Nat.{_+_, _*_, _/_, _<_};
 ghost use Rattle.cord.specs.Round.{cordRound};
@@ -9,9 +9,9 @@ ghost use Rattle.cord.specs.Views.{round8, round16, cordAnswer8, cordAns
 use flags::width::Width8;
 use flags::width::Width16;
 
-// Both halves as one number, the upper above the lower. Besides: the left side of the last compare made,
-// which sets the flags, with what stood below it, and the ones so far by each of the two roads that make
-// one. The steps follow from those by no borrow.
+// `both` holds the two halves as one number, the upper half on top. `compared` is `both` as it stood in the last
+// compare; its upper half sets the flags. The other two count the ones by each road that makes a one. The steps
+// follow from `no_borrow`.
 pub struct CordRound8 {
     pub both: u32,
     pub compared: u32,
@@ -29,7 +29,7 @@ pub enum CordOutcome8 {
     Refused,
 }
 
-// C, the left side of the last compare made, the ones by each road and the steps, whatever came of it.
+// Accepted or refused, CORD returns C, the left side of the last compare, the ones by each road and the steps.
 pub struct CordAnswer8 {
     pub outcome: CordOutcome8,
     pub carry: bool,
@@ -39,8 +39,8 @@ pub struct CordAnswer8 {
     pub steps: u16,
 }
 
-// A round, by one of three roads: a bit shifted out, no borrow, borrow. The quotient's one enters beside the
-// shift, so that nothing waits for it.
+// One round, by one of three roads: a bit shifted out, no borrow, borrow. `with_one` is the shifted number with the
+// quotient's one already in it, so the subtraction does not wait for that bit.
 fn cord_round8(from: CordRound8, tmpb: u8) -> CordRound8
     requires { ⌜ (from .both / 0x100 < tmpb) × (from .«shifted_out» < 100) × (from .«no_borrow» < 100) ⌝ }
     ensures { λ r. ⌜ round8 r ≡ cordRound 8 tmpb (round8 from) ⌝ }
@@ -73,7 +73,7 @@ fn cord_round8(from: CordRound8, tmpb: u8) -> CordRound8
     }
 }
 
-// The quotient fits its half exactly if the upper half is below the divisor, so one compare refuses. Else
+// The quotient fits its half exactly if the upper half is below the divisor, so one compare decides. If it fits,
 // there are 3 steps before the rounds, 7 in each, 1 for each jump back and 4 at the end: 6, and 8 a round.
 // A one by no borrow takes 1 more, and an odd quotient 2.
 pub fn cord8(tmpa: u8, tmpb: u8, tmpc: u8, steps: u16) -> CordAnswer8
@@ -116,9 +116,9 @@ pub fn cord8(tmpa: u8, tmpb: u8, tmpc: u8, steps: u16) -> CordAnswer8
     }
 }
 
-// Both halves as one number, the upper above the lower. Besides: the left side of the last compare made,
-// which sets the flags, with what stood below it, and the ones so far by each of the two roads that make
-// one. The steps follow from those by no borrow.
+// `both` holds the two halves as one number, the upper half on top. `compared` is `both` as it stood in the last
+// compare; its upper half sets the flags. The other two count the ones by each road that makes a one. The steps
+// follow from `no_borrow`.
 pub struct CordRound16 {
     pub both: u64,
     pub compared: u64,
@@ -136,7 +136,7 @@ pub enum CordOutcome16 {
     Refused,
 }
 
-// C, the left side of the last compare made, the ones by each road and the steps, whatever came of it.
+// Accepted or refused, CORD returns C, the left side of the last compare, the ones by each road and the steps.
 pub struct CordAnswer16 {
     pub outcome: CordOutcome16,
     pub carry: bool,
@@ -146,8 +146,8 @@ pub struct CordAnswer16 {
     pub steps: u16,
 }
 
-// A round, by one of three roads: a bit shifted out, no borrow, borrow. The quotient's one enters beside the
-// shift, so that nothing waits for it.
+// One round, by one of three roads: a bit shifted out, no borrow, borrow. `with_one` is the shifted number with the
+// quotient's one already in it, so the subtraction does not wait for that bit.
 fn cord_round16(from: CordRound16, tmpb: u16) -> CordRound16
     requires { ⌜ (from .both / 0x1_0000 < tmpb) × (from .«shifted_out» < 100) × (from .«no_borrow» < 100) ⌝ }
     ensures { λ r. ⌜ round16 r ≡ cordRound 16 tmpb (round16 from) ⌝ }
@@ -180,7 +180,7 @@ fn cord_round16(from: CordRound16, tmpb: u16) -> CordRound16
     }
 }
 
-// The quotient fits its half exactly if the upper half is below the divisor, so one compare refuses. Else
+// The quotient fits its half exactly if the upper half is below the divisor, so one compare decides. If it fits,
 // there are 3 steps before the rounds, 7 in each, 1 for each jump back and 4 at the end: 6, and 8 a round.
 // A one by no borrow takes 1 more, and an odd quotient 2.
 pub fn cord16(tmpa: u16, tmpb: u16, tmpc: u16, steps: u16) -> CordAnswer16

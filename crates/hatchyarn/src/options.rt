@@ -74,7 +74,7 @@ pub fn help() {
 }
 
 pub fn version() {
-    show(b"hatchyarn 0.10.0\n");
+    show(b"hatchyarn 0.11.0\n");
 }
 
 pub fn unknown(i: usize) {

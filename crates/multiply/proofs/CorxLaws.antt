@@ -15,7 +15,7 @@ use Rattle.flags.proofs.Powers.{product-lt}
 use Rattle.multiply.specs.Corx.{Halves, corx}
 use Rattle.multiply.specs.InPlace.{AddRound, addRound}
 
--- what is added is at most the addend
+-- a round adds at most the addend
 pub once-le : (x d : ℕ) → d < 2 → x * d ≤ x
 once-le x zero h = omega arith
 once-le x (suc zero) h = omega arith

@@ -1,6 +1,6 @@
-// CORX, the microcode's multiply: the multiplier leaves its register by the right, a bit a round. The chip
-// moves the product right with it; here the product stays and what is added moves left, so that no round
-// waits for the sum of the one before.
+// CORX, the microcode's multiply: each round takes the lowest bit off the multiplier. The chip adds to the upper
+// half and shifts both halves right. Here the product stays in place and the addend shifts left, so no round
+// waits for the sum of the round before. The law `chip-walks` says that both ways give the same halves and steps.
 ghost use mathlib.Core.Path.{_≡_};
 ghost use Prim.Native.Nat.{_<_};
 ghost use Rattle.multiply.specs.Corx.{corx};
@@ -15,7 +15,7 @@ pub struct Halves8 {
     pub steps: u16,
 }
 
-// The product so far, what the next round adds to it where it adds, and what is left of the multiplier.
+// The product so far, the addend of the next round, and the bits of the multiplier that are left.
 pub struct CorxRound8 {
     pub product: u32,
     pub addend: u32,
@@ -23,8 +23,8 @@ pub struct CorxRound8 {
     pub steps: u16,
 }
 
-// A round, without the jump back. The multiplier's lowest bit says whether to add. A branch on it would be
-// guessed wrong half the time, so it is multiplied by.
+// One round, without the jump back. It adds if the multiplier's lowest bit is 1. A branch on that bit would be
+// mispredicted half the time, so the addend is multiplied by the bit.
 fn corx_round8(from: CorxRound8) -> CorxRound8
     requires { ⌜ (from .product < 0x8000_0000) × (from .addend < 0x8000_0000) × (from .steps < 2000) ⌝ }
     ensures { λ r. ⌜ round8 r ≡ addRound (round8 from) ⌝ }
@@ -38,8 +38,8 @@ fn corx_round8(from: CorxRound8) -> CorxRound8
     }
 }
 
-// The last round leaves the loop before the jump back. What carry enters stands above the multiplier, and no
-// round comes to it.
+// The last round leaves the loop before the jump back. The carry enters above the multiplier's top bit, and no
+// round reaches it there.
 pub fn corx8(tmpb: u8, tmpc: u8, carry: bool, steps: u16) -> Halves8
     requires { ⌜ steps < 1000 ⌝ }
     ensures { λ r. ⌜ halves8 r ≡ corx 8 tmpb tmpc steps ⌝ }
@@ -71,7 +71,7 @@ pub struct Halves16 {
     pub steps: u16,
 }
 
-// The product so far, what the next round adds to it where it adds, and what is left of the multiplier.
+// The product so far, the addend of the next round, and the bits of the multiplier that are left.
 pub struct CorxRound16 {
     pub product: u32,
     pub addend: u32,
@@ -79,8 +79,8 @@ pub struct CorxRound16 {
     pub steps: u16,
 }
 
-// A round, without the jump back. The multiplier's lowest bit says whether to add. A branch on it would be
-// guessed wrong half the time, so it is multiplied by.
+// One round, without the jump back. It adds if the multiplier's lowest bit is 1. A branch on that bit would be
+// mispredicted half the time, so the addend is multiplied by the bit.
 fn corx_round16(from: CorxRound16) -> CorxRound16
     requires { ⌜ (from .product < 0x8000_0000) × (from .addend < 0x8000_0000) × (from .steps < 2000) ⌝ }
     ensures { λ r. ⌜ round16 r ≡ addRound (round16 from) ⌝ }
@@ -94,8 +94,8 @@ fn corx_round16(from: CorxRound16) -> CorxRound16
     }
 }
 
-// The last round leaves the loop before the jump back. What carry enters stands above the multiplier, and no
-// round comes to it.
+// The last round leaves the loop before the jump back. The carry enters above the multiplier's top bit, and no
+// round reaches it there.
 pub fn corx16(tmpb: u16, tmpc: u16, carry: bool, steps: u16) -> Halves16
     requires { ⌜ steps < 1000 ⌝ }
     ensures { λ r. ⌜ halves16 r ≡ corx 16 tmpb tmpc steps ⌝ }

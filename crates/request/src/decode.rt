@@ -1,6 +1,6 @@
-// The operation that an op and a mode name. The two are taken as one number, so that one jump leads to the
-// operation and, compiled, on to its work. A result that is handed on whole between two functions here costs
-// that: it is copied as one word, and the jump is not followed through it.
+// Decodes an op and a mode into an operation. Both are matched as one number, so the compiled code reaches the
+// operation's own work by one jump. No function here returns a `Decoded` that another one passes on: the compiler
+// copies such a value as one word and can no longer follow the jump through it.
 ghost use mathlib.Core.Path.{_≡_};
 ghost use Rattle.request.specs.Operation.{aluAt, multiplies, divides, operationOf};
 use crate::operation::Alu;
@@ -9,7 +9,7 @@ use crate::operation::Mode;
 use crate::operation::Operation;
 use crate::operation::Width;
 
-// The refusals are statuses 3 and 4.
+// An unlisted op is status 3, a wrong mode status 4.
 pub enum Decoded {
     Operation(Operation),
     Unlisted,
@@ -21,7 +21,7 @@ enum AluAt {
     Nothing,
 }
 
-// An ALU operation may ask for a width, and for nothing else.
+// The ALU operations. The only mode bit that they take is the width.
 fn alu_at(key: u16) -> AluAt
     ensures { λ r. ⌜ r ≡ aluAt key ⌝ }
 {
@@ -68,7 +68,7 @@ fn divide(width: Width, signed: bool, rep: bool) -> Decoded
     Decoded::Operation(Operation::Divide(Mode { width, signed, rep }))
 }
 
-// What names no operation: an op that is not listed, or else a mode that does not fit it.
+// Why a key names no operation: its op is not listed, or it is and the mode does not fit it.
 fn refused(op: u8) -> Decoded
     ensures { λ r. ⌜ r ≡ operationOf op 0x08 ⌝ }
 {
@@ -80,7 +80,7 @@ fn refused(op: u8) -> Decoded
     }
 }
 
-// A multiply or divide may ask for width, sign rule and REP, an adjust for nothing.
+// A multiply or divide takes width, sign rule and REP. An adjust takes no mode bit.
 pub fn decode(op: u8, mode: u8) -> Decoded
     ensures { λ r. ⌜ r ≡ operationOf op mode ⌝ }
 {

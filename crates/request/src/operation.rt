@@ -1,10 +1,10 @@
-// The operations: a request in memory names one, which holds its own width and sign rule.
+// The operations. Each holds its own width, and multiply and divide their sign rule and REP.
 pub enum Width {
     Byte,
     Word,
 }
 
-// What multiply and divide hold besides: the sign rule, and whether REP stood before them.
+// The mode of a multiply or divide. `rep` says that a REP prefix stood before it.
 pub struct Mode {
     pub width: Width,
     pub signed: bool,

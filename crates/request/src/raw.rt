@@ -1,10 +1,10 @@
-// A request as it comes in, and in memory.
+// A request as it comes in, and with its operation decoded.
 ghost use mathlib.Core.Path.{_≡_};
 ghost use Rattle.request.specs.Limits.{fitsIn};
 use crate::operation::Operation;
 use flags::word::Flags;
 
-// What no one has checked.
+// Nothing in it has been checked.
 pub struct Raw {
     pub op: u8,
     pub mode: u8,
@@ -13,7 +13,7 @@ pub struct Raw {
     pub y: u16,
 }
 
-// Its operation is known; X, Y and the flags are held to their limits where the operation is done.
+// The operation is known. X, Y and the flags are checked against its limits where its work is done.
 pub struct Request {
     pub operation: Operation,
     pub flags: u16,
@@ -22,7 +22,7 @@ pub struct Request {
 }
 
 impl Request {
-    // X and Y at most so large, and no flag outside 08D5; else the status is 5.
+    // Whether X and Y are within these limits and no flag is outside 08D5. If not, the status is 5.
     pub fn fits(self, x_most: u32, y_most: u16) -> bool
         ensures { λ r. ⌜ r ≡ fitsIn «x_most» «y_most» (self .flags) (self .x) (self .y) ⌝ }
     {
