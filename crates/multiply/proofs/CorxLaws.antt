@@ -13,13 +13,20 @@ use lib.Dec.{lit<}
 use Rattle.flags.specs.Numbers.{bit}
 use Rattle.flags.proofs.Powers.{product-lt}
 use Rattle.multiply.specs.Corx.{Halves, corx}
-use Rattle.multiply.specs.InPlace.{AddRound, addRound}
+use Rattle.multiply.specs.InPlace.{addRound}
+use Rattle.multiply.specs.declared.corx.AddRound.{AddRound}
 
 -- a round adds at most the addend
 pub once-le : (x d : ℕ) → d < 2 → x * d ≤ x
 once-le x zero h = omega arith
 once-le x (suc zero) h = omega arith
 once-le x (suc (suc d)) h = absurd (omega arith)
+
+-- a round from its four parts
+pub round-of : (s : AddRound) {r : AddRound} → r .product ≡ s .product + s .addend * (s .multiplier % 2) → r .addend ≡ s .addend * 2 → r .multiplier ≡ s .multiplier / 2
+    → r .steps ≡ s .steps + 5 + s .multiplier % 2 → r ≡ addRound s
+unfolding addRound
+round-of s p a m t = λ i. record { product = p i; addend = a i; multiplier = m i; steps = t i }
 
 -- the multiplier with the carry that enters above it
 abbrev pub multiplier : ℕ → ℕ → Bool → ℕ

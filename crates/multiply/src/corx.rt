@@ -5,7 +5,7 @@ ghost use mathlib.Core.Path.{_≡_};
 ghost use Prim.Native.Nat.{_<_};
 ghost use Rattle.multiply.specs.Corx.{corx};
 ghost use Rattle.multiply.specs.InPlace.{addRound};
-ghost use Rattle.multiply.specs.Views.{halves8, halves16, round8, round16};
+ghost use Rattle.multiply.specs.Views.{halves8, halves16};
 use flags::width::Width8;
 use flags::width::Width16;
 
@@ -15,8 +15,15 @@ pub struct Halves8 {
     pub steps: u16,
 }
 
-// The product so far, the addend of the next round, and the bits of the multiplier that are left.
-pub struct CorxRound8 {
+pub struct Halves16 {
+    pub tmpa: u16,
+    pub tmpc: u16,
+    pub steps: u16,
+}
+
+// The product so far, the addend of the next round, and the bits of the multiplier that are left. 32 bits hold them
+// at either width.
+pub struct AddRound {
     pub product: u32,
     pub addend: u32,
     pub multiplier: u32,
@@ -25,12 +32,12 @@ pub struct CorxRound8 {
 
 // One round, without the jump back. It adds if the multiplier's lowest bit is 1. A branch on that bit would be
 // mispredicted half the time, so the addend is multiplied by the bit.
-fn corx_round8(from: CorxRound8) -> CorxRound8
+fn corx_round(from: AddRound) -> AddRound
     requires { ⌜ (from .product < 0x8000_0000) × (from .addend < 0x8000_0000) × (from .steps < 2000) ⌝ }
-    ensures { λ r. ⌜ round8 r ≡ addRound (round8 from) ⌝ }
+    ensures { λ r. ⌜ r ≡ addRound from ⌝ }
 {
     let bit = from.multiplier % 2;
-    CorxRound8 {
+    AddRound {
         product: from.product + from.addend * bit,
         addend: from.addend * 2,
         multiplier: from.multiplier / 2,
@@ -44,7 +51,7 @@ pub fn corx8(tmpb: u8, tmpc: u8, carry: bool, steps: u16) -> Halves8
     requires { ⌜ steps < 1000 ⌝ }
     ensures { λ r. ⌜ halves8 r ≡ corx 8 tmpb tmpc steps ⌝ }
 {
-    let mut at = CorxRound8 {
+    let mut at = AddRound {
         product: 0,
         addend: tmpb as u32,
         multiplier: carry as u32 * 0x100 + tmpc as u32,
@@ -52,7 +59,7 @@ pub fn corx8(tmpb: u8, tmpc: u8, carry: bool, steps: u16) -> Halves8
     };
     let mut internal_counter = Width8::BITS - 1;
     loop {
-        at = corx_round8(at);
+        at = corx_round(at);
         if internal_counter == 0 {
             break Halves8 {
                 tmpa: (at.product / 0x100) as u8,
@@ -65,42 +72,13 @@ pub fn corx8(tmpb: u8, tmpc: u8, carry: bool, steps: u16) -> Halves8
     }
 }
 
-pub struct Halves16 {
-    pub tmpa: u16,
-    pub tmpc: u16,
-    pub steps: u16,
-}
-
-// The product so far, the addend of the next round, and the bits of the multiplier that are left.
-pub struct CorxRound16 {
-    pub product: u32,
-    pub addend: u32,
-    pub multiplier: u32,
-    pub steps: u16,
-}
-
-// One round, without the jump back. It adds if the multiplier's lowest bit is 1. A branch on that bit would be
-// mispredicted half the time, so the addend is multiplied by the bit.
-fn corx_round16(from: CorxRound16) -> CorxRound16
-    requires { ⌜ (from .product < 0x8000_0000) × (from .addend < 0x8000_0000) × (from .steps < 2000) ⌝ }
-    ensures { λ r. ⌜ round16 r ≡ addRound (round16 from) ⌝ }
-{
-    let bit = from.multiplier % 2;
-    CorxRound16 {
-        product: from.product + from.addend * bit,
-        addend: from.addend * 2,
-        multiplier: from.multiplier / 2,
-        steps: from.steps + 5 + bit as u16,
-    }
-}
-
 // The last round leaves the loop before the jump back. The carry enters above the multiplier's top bit, and no
 // round reaches it there.
 pub fn corx16(tmpb: u16, tmpc: u16, carry: bool, steps: u16) -> Halves16
     requires { ⌜ steps < 1000 ⌝ }
     ensures { λ r. ⌜ halves16 r ≡ corx 16 tmpb tmpc steps ⌝ }
 {
-    let mut at = CorxRound16 {
+    let mut at = AddRound {
         product: 0,
         addend: tmpb as u32,
         multiplier: carry as u32 * 0x1_0000 + tmpc as u32,
@@ -108,7 +86,7 @@ pub fn corx16(tmpb: u16, tmpc: u16, carry: bool, steps: u16) -> Halves16
     };
     let mut internal_counter = Width16::BITS - 1;
     loop {
-        at = corx_round16(at);
+        at = corx_round(at);
         if internal_counter == 0 {
             break Halves16 {
                 tmpa: (at.product / 0x1_0000) as u16,

@@ -5,14 +5,13 @@ use Prim.Native.Nat.{ℕ, _+_, _<_}
 use native.Mathlib.Omega.{arith}
 use borrow.Author.Needs.{needs}
 use Rattle.flags.proofs.WordLaws.{bit-le}
-use Rattle.multiply.specs.Views.{round16}
 use Rattle.multiply.proofs.CorxLaws.{multiplier, Walked, jumped, begins, next, few-steps, ready, two-halves, ends}
 use Rattle.multiply.proofs.corx.corx16.Statement.{statement}
 use Rattle.multiply.proofs.corx.corx16.Tie as tie
 
 abbrev Inv-loop : tie.InvT-loop
 Inv-loop tmpb tmpc carry steps at₀ internal-counter₀ at internal-counter =
-    (k : ℕ) × Walked tmpb (multiplier 16 tmpc carry) steps k (round16 at) × (k + internal-counter ≡ 15)
+    (k : ℕ) × Walked tmpb (multiplier 16 tmpc carry) steps k at × (k + internal-counter ≡ 15)
 
 abbrev μ-loop : tie.MeasureT-loop
 μ-loop tmpb tmpc carry steps at₀ internal-counter₀ at internal-counter = internal-counter
@@ -20,21 +19,21 @@ abbrev μ-loop : tie.MeasureT-loop
 loop-holds : tie.Need-loop-holds Inv-loop μ-loop
 loop-holds c = (0, begins _ _ _, refl)
 
-corx-round16-requires : tie.Need-corx-round16-requires Inv-loop μ-loop
-corx-round16-requires c κs = omega (arith, ready _ _ _ _ _ (c .loop .inv .1) (omega arith) (omega arith) (omega arith))
+corx-round-requires : tie.Need-corx-round-requires Inv-loop μ-loop
+corx-round-requires c κs = omega (arith, ready _ _ _ _ _ (c .loop .inv .1) (omega arith) (omega arith) (omega arith))
 
 -- the walk goes on from a round, with its jump
-gone-on : (c : tie.After-corx-round16 Inv-loop μ-loop)
-    → let a = c .before .before .args in Walked (a .tmpb) (multiplier 16 (a .tmpc) (a .carry)) (a .steps) (c .before .loop .inv .0 + 1) (jumped (round16 (c .corx-round16 .result)))
-gone-on c = next _ _ _ _ _ (c .corx-round16 .ensures) (c .before .loop .inv .1)
+gone-on : (c : tie.After-corx-round Inv-loop μ-loop)
+    → let a = c .before .before .args in Walked (a .tmpb) (multiplier 16 (a .tmpc) (a .carry)) (a .steps) (c .before .loop .inv .0 + 1) (jumped (c .corx-round .result))
+gone-on c = next _ _ _ _ _ (c .corx-round .ensures) (c .before .loop .inv .1)
 
-few-after : (c : tie.After-corx-round16 Inv-loop μ-loop) → c .corx-round16 .result .steps + 1 < 1200
+few-after : (c : tie.After-corx-round Inv-loop μ-loop) → c .corx-round .result .steps + 1 < 1200
 few-after c = few-steps _ _ _ _ _ (gone-on c) (omega arith) (omega arith)
 
 upper-fits : tie.Need-cast-t16 Inv-loop μ-loop
 upper-fits c =
     let walk = c .before .before in
-    omega (arith, two-halves 16 _ _ (walk .before .before .args .carry) _ _ _ (walk .corx-round16 .ensures) (walk .before .loop .inv .1) (omega arith) (omega arith) (omega arith))
+    omega (arith, two-halves 16 _ _ (walk .before .before .args .carry) _ _ _ (walk .corx-round .ensures) (walk .before .loop .inv .1) (omega arith) (omega arith) (omega arith))
 
 loop-again : tie.Need-loop-again Inv-loop μ-loop
 loop-again c = let walk = c .before .before in (walk .before .loop .inv .0 + 1, gone-on walk, omega arith)
@@ -42,10 +41,10 @@ loop-again c = let walk = c .before .before in (walk .before .loop .inv .0 + 1, 
 returns : tie.Need-returns Inv-loop μ-loop
 returns c =
     let walk = c .before .before .before .before in
-    ends 16 _ _ (walk .before .before .args .carry) _ _ _ (walk .corx-round16 .ensures) (walk .before .loop .inv .1) (omega arith) (omega arith)
+    ends 16 _ _ (walk .before .before .args .carry) _ _ _ (walk .corx-round .ensures) (walk .before .loop .inv .1) (omega arith) (omega arith)
 
 pub corx16-spec : {M : Type 1} → statement M
 corx16-spec =
     tie.close
-    (tie.spec Inv-loop μ-loop (λ c. tt) (λ c. omega (arith, bit-le (c .args .carry))) (λ c. omega (arith, bit-le (c .args .carry))) (λ c. search needs) (λ c. search needs) loop-holds corx-round16-requires upper-fits (λ c. omega arith)
+    (tie.spec Inv-loop μ-loop (λ c. tt) (λ c. omega (arith, bit-le (c .args .carry))) (λ c. omega (arith, bit-le (c .args .carry))) (λ c. search needs) (λ c. search needs) loop-holds corx-round-requires upper-fits (λ c. omega arith)
     (λ c. omega (arith, few-after (c .before .before .before .before))) (λ c. omega arith) (λ c. omega (arith, few-after (c .before .before))) (λ c. omega arith) loop-again returns)

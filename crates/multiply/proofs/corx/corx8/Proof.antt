@@ -5,14 +5,13 @@ use Prim.Native.Nat.{ℕ, _+_, _<_}
 use native.Mathlib.Omega.{arith}
 use borrow.Author.Needs.{needs}
 use Rattle.flags.proofs.WordLaws.{bit-le}
-use Rattle.multiply.specs.Views.{round8}
 use Rattle.multiply.proofs.CorxLaws.{multiplier, Walked, jumped, begins, next, few-steps, ready, two-halves, ends}
 use Rattle.multiply.proofs.corx.corx8.Statement.{statement}
 use Rattle.multiply.proofs.corx.corx8.Tie as tie
 
 abbrev Inv-loop : tie.InvT-loop
 Inv-loop tmpb tmpc carry steps at₀ internal-counter₀ at internal-counter =
-    (k : ℕ) × Walked tmpb (multiplier 8 tmpc carry) steps k (round8 at) × (k + internal-counter ≡ 7)
+    (k : ℕ) × Walked tmpb (multiplier 8 tmpc carry) steps k at × (k + internal-counter ≡ 7)
 
 abbrev μ-loop : tie.MeasureT-loop
 μ-loop tmpb tmpc carry steps at₀ internal-counter₀ at internal-counter = internal-counter
@@ -20,21 +19,21 @@ abbrev μ-loop : tie.MeasureT-loop
 loop-holds : tie.Need-loop-holds Inv-loop μ-loop
 loop-holds c = (0, begins _ _ _, refl)
 
-corx-round8-requires : tie.Need-corx-round8-requires Inv-loop μ-loop
-corx-round8-requires c κs = omega (arith, ready _ _ _ _ _ (c .loop .inv .1) (omega arith) (omega arith) (omega arith))
+corx-round-requires : tie.Need-corx-round-requires Inv-loop μ-loop
+corx-round-requires c κs = omega (arith, ready _ _ _ _ _ (c .loop .inv .1) (omega arith) (omega arith) (omega arith))
 
 -- the walk goes on from a round, with its jump
-gone-on : (c : tie.After-corx-round8 Inv-loop μ-loop)
-    → let a = c .before .before .args in Walked (a .tmpb) (multiplier 8 (a .tmpc) (a .carry)) (a .steps) (c .before .loop .inv .0 + 1) (jumped (round8 (c .corx-round8 .result)))
-gone-on c = next _ _ _ _ _ (c .corx-round8 .ensures) (c .before .loop .inv .1)
+gone-on : (c : tie.After-corx-round Inv-loop μ-loop)
+    → let a = c .before .before .args in Walked (a .tmpb) (multiplier 8 (a .tmpc) (a .carry)) (a .steps) (c .before .loop .inv .0 + 1) (jumped (c .corx-round .result))
+gone-on c = next _ _ _ _ _ (c .corx-round .ensures) (c .before .loop .inv .1)
 
-few-after : (c : tie.After-corx-round8 Inv-loop μ-loop) → c .corx-round8 .result .steps + 1 < 1200
+few-after : (c : tie.After-corx-round Inv-loop μ-loop) → c .corx-round .result .steps + 1 < 1200
 few-after c = few-steps _ _ _ _ _ (gone-on c) (omega arith) (omega arith)
 
 upper-fits : tie.Need-cast-t16 Inv-loop μ-loop
 upper-fits c =
     let walk = c .before .before in
-    omega (arith, two-halves 8 _ _ (walk .before .before .args .carry) _ _ _ (walk .corx-round8 .ensures) (walk .before .loop .inv .1) (omega arith) (omega arith) (omega arith))
+    omega (arith, two-halves 8 _ _ (walk .before .before .args .carry) _ _ _ (walk .corx-round .ensures) (walk .before .loop .inv .1) (omega arith) (omega arith) (omega arith))
 
 loop-again : tie.Need-loop-again Inv-loop μ-loop
 loop-again c = let walk = c .before .before in (walk .before .loop .inv .0 + 1, gone-on walk, omega arith)
@@ -42,10 +41,10 @@ loop-again c = let walk = c .before .before in (walk .before .loop .inv .0 + 1, 
 returns : tie.Need-returns Inv-loop μ-loop
 returns c =
     let walk = c .before .before .before .before in
-    ends 8 _ _ (walk .before .before .args .carry) _ _ _ (walk .corx-round8 .ensures) (walk .before .loop .inv .1) (omega arith) (omega arith)
+    ends 8 _ _ (walk .before .before .args .carry) _ _ _ (walk .corx-round .ensures) (walk .before .loop .inv .1) (omega arith) (omega arith)
 
 pub corx8-spec : {M : Type 1} → statement M
 corx8-spec =
     tie.close
-    (tie.spec Inv-loop μ-loop (λ c. tt) (λ c. omega (arith, bit-le (c .args .carry))) (λ c. omega (arith, bit-le (c .args .carry))) (λ c. search needs) (λ c. search needs) loop-holds corx-round8-requires upper-fits (λ c. omega arith)
+    (tie.spec Inv-loop μ-loop (λ c. tt) (λ c. omega (arith, bit-le (c .args .carry))) (λ c. omega (arith, bit-le (c .args .carry))) (λ c. search needs) (λ c. search needs) loop-holds corx-round-requires upper-fits (λ c. omega arith)
     (λ c. omega (arith, few-after (c .before .before .before .before))) (λ c. omega arith) (λ c. omega (arith, few-after (c .before .before))) (λ c. omega arith) loop-again returns)
