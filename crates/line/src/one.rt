@@ -62,9 +62,8 @@ pub fn answer_line(line: &[u8], out: &mut [u8]) -> u8
     if out.len() < 19 {
         return 7;
     }
-    let digits = digits::digit_table();
     let capitals = digits::capital_table();
     let parity = parity::parity_table();
-    let read = fields::read_fields(&digits, line);
+    let read = fields::read_fields(line);
     write_answer(&capitals, &parity, read, out)
 }

@@ -13,7 +13,7 @@ use borrow.Author.Tests.{ltb-true, ltb-false}
 use Rattle.text.specs.Digits.{capitalOf}
 use Rattle.text.specs.Lanes.{lanes}
 use Rattle.text.specs.Written.{four}
-use Rattle.text.proofs.LaneLaws.{each, Below, apart, above, under, sums, times, same, masked, halves, halves-below, each-all, lane-at}
+use Rattle.text.proofs.LaneLaws.{each, Below, split, upperHalf, lowerHalf, sums, times, agree, masked, split-by-masks, split-below, each-all, lane-at}
 
 -- 6 more than a digit above 9 has bit 4 set, and its letter is 7 further on
 capital-is : (d : ℕ) → d < 16 → d + 0x30 + (d + 6) / 16 % 2 * 7 ≡ capitalOf d
@@ -37,14 +37,14 @@ capitals-law ds below =
     ∙ masked 8 (λ d. d < 16) 0x10 16 (λ b. b / 16 % 2) (λ d. d + 6) (lit< tt) (λ b. and-high b 1 4) (λ d p. omega arith) ds below)
     ∙ ap (λ (x : ℕ). lanes 8 (each (λ d. d + 0x30) ds) + x) (ap (λ (x : ℕ). x * 7) (mul-div-cancel (lanes 8 (each (λ d. (d + 6) / 16 % 2) ds)) (lit< tt)) ∙ times 8 7 (λ d. (d + 6) / 16 % 2) ds)
     ∙ sums 8 (λ d. d + 0x30) (λ d. (d + 6) / 16 % 2 * 7) ds
-    ∙ same 8 (λ d. d < 16) (λ d. d + 0x30 + (d + 6) / 16 % 2 * 7) capitalOf capital-is ds below
+    ∙ agree 8 (λ d. d < 16) (λ d. d + 0x30 + (d + 6) / 16 % 2 * 7) capitalOf capital-is ds below
 
 -- bytes, and of these digits
 abbrev bytesOf : ℕ → ℕ → List ℕ
-bytesOf x y = apart (above 8) (under 8) (x ∷ y ∷ [])
+bytesOf x y = split (upperHalf 8) (lowerHalf 8) (x ∷ y ∷ [])
 
 abbrev digitsOf : ℕ → ℕ → List ℕ
-digitsOf x y = apart (above 4) (under 4) (bytesOf x y)
+digitsOf x y = split (upperHalf 4) (lowerHalf 4) (bytesOf x y)
 
 module _ (x : ℕ) (h : x < 0x1_0000) where
   digit-0 : x / 256 % 256 / 16 % 16 ≡ x / 0x1000
@@ -77,11 +77,11 @@ capitalsAdded n = n + 0x3030_3030_3030_3030 + bitAnd (n + 0x0606_0606_0606_0606)
 
 pub eight-law : (x y : ℕ) → x < 0x1_0000 → y < 0x1_0000 → capitalsAdded (digitsApart (bytesApart (x + y * 0x1_0000_0000))) ≡ lanes 8 (four capitalOf x ++ four capitalOf y)
 eight-law x y hx hy =
-    let together : x + y * 0x1_0000_0000 ≡ lanes 32 (x ∷ y ∷ []) = omega arith in
-    ap (λ (q : ℕ). capitalsAdded (digitsApart (bytesApart q))) together
-    ∙ ap (λ (p : ℕ). capitalsAdded (digitsApart p)) (halves 8 0x1_0000 (lit< tt) (lit< tt) (λ b p. omega arith) (x ∷ y ∷ []) (hx, (hy, tt)))
-    ∙ ap capitalsAdded (halves 4 256 (lit< tt) (lit< tt) (λ b p. omega arith) (bytesOf x y) (halves-below 8 (x ∷ y ∷ [])))
-    ∙ capitals-law (digitsOf x y) (halves-below 4 (bytesOf x y))
+    let joinPairs : x + y * 0x1_0000_0000 ≡ lanes 32 (x ∷ y ∷ []) = omega arith in
+    ap (λ (q : ℕ). capitalsAdded (digitsApart (bytesApart q))) joinPairs
+    ∙ ap (λ (p : ℕ). capitalsAdded (digitsApart p)) (split-by-masks 8 0x1_0000 (lit< tt) (lit< tt) (λ b p. omega arith) (x ∷ y ∷ []) (hx, (hy, tt)))
+    ∙ ap capitalsAdded (split-by-masks 4 256 (lit< tt) (lit< tt) (λ b p. omega arith) (bytesOf x y) (split-below 8 (x ∷ y ∷ [])))
+    ∙ capitals-law (digitsOf x y) (split-below 4 (bytesOf x y))
     ∙ ap (lanes 8) (in-order x y hx hy)
 
 -- byte by byte
@@ -89,7 +89,7 @@ module _ (x y c : ℕ) (hx : x < 0x1_0000) (hy : y < 0x1_0000) (e : c ≡ lanes 
   byte : (k : ℕ) → c / 256 ^ k % 256 ≡ getD (four capitalOf x ++ four capitalOf y) k 0
   byte k =
       ap (λ (n : ℕ). n / 256 ^ k % 256) e
-      ∙ lane-at 8 (four capitalOf x ++ four capitalOf y) (subst (Below 256) (in-order x y hx hy) (each-all (λ d. d < 16) (λ b. b < 256) capitalOf capital-fits (digitsOf x y) (halves-below 4 (bytesOf x y)))) k
+      ∙ lane-at 8 (four capitalOf x ++ four capitalOf y) (subst (Below 256) (in-order x y hx hy) (each-all (λ d. d < 16) (λ b. b < 256) capitalOf capital-fits (digitsOf x y) (split-below 4 (bytesOf x y)))) k
 
   -- the eight stores
   pub stored : (out : List ℕ) (at : ℕ)

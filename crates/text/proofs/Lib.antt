@@ -7,3 +7,4 @@ pub mod LineLaws
 pub mod NextLine
 pub mod Plain
 pub mod ReadBack
+pub mod TwentyLaws

@@ -5,9 +5,9 @@ ghost use mathlib.Core.Path.{_≡_};
 ghost use Prim.Native.Nat.{_+_, _≤_, _<_};
 ghost use lib.ListN.{length, take, drop};
 ghost use Rattle.text.specs.Digits.{DigitTable};
-ghost use Rattle.text.specs.Fields.{fourOf, fourAt, fieldsOf, fieldsAt, readOf};
+ghost use Rattle.text.specs.Fields.{fourOf, fourAt, fieldsAt, readOf};
 ghost use Rattle.text.specs.Lanes.{lanes};
-ghost use Rattle.text.specs.Plain.{allDigits};
+ghost use Rattle.text.specs.Plain.{allDigits, fieldAt};
 use crate::digits;
 use crate::numbers;
 
@@ -19,14 +19,14 @@ pub struct Fields {
     pub y: u16,
 }
 
-// Not 20 bytes is status 1, a byte that is no digit status 2.
+// `Length`: the line is not 20 bytes long (status 1). `Digit`: a byte is not a digit (status 2).
 pub enum Read {
     Fields(Fields),
     Length,
     Digit,
 }
 
-// The number of four digits; 65,536 where one of them is none.
+// The number of four digits, the high digit first; 65,536 if one of them is 16 or more, which is no digit.
 fn four(a: u8, b: u8, c: u8, d: u8) -> u32
     ensures { λ r. ⌜ r ≡ fourOf a b c d ⌝ }
 {
@@ -36,7 +36,7 @@ fn four(a: u8, b: u8, c: u8, d: u8) -> u32
     0x1_0000
 }
 
-// The number of the four digits from `at` on; 65,536 where one of them is none.
+// The number of the four digits from `at` on; 65,536 if a byte is not a digit.
 pub fn four_at(table: &[u8; 256], line: &[u8], at: usize) -> u32
     requires { ⌜ DigitTable (now table) ⌝ }
     requires { ⌜ at + 4 ≤ length (now line) ⌝ }
@@ -50,24 +50,8 @@ pub fn four_at(table: &[u8; 256], line: &[u8], at: usize) -> u32
     )
 }
 
-// The five groups of four digits, each below 65,536 or none.
-fn grouped(head: u32, flags: u32, upper: u32, lower: u32, y: u32) -> Read
-    ensures { λ r. ⌜ r ≡ fieldsOf head flags upper lower y ⌝ }
-{
-    if head < 0x1_0000 && flags < 0x1_0000 && upper < 0x1_0000 && lower < 0x1_0000 && y < 0x1_0000 {
-        return Read::Fields(Fields {
-            op: (head / 0x100) as u8,
-            mode: (head % 0x100) as u8,
-            flags: flags as u16,
-            x: upper * 0x1_0000 + lower,
-            y: y as u16,
-        });
-    }
-    Read::Digit
-}
-
-// Eight bytes as one number, the first lowest. Loads that stand side by side are one to the compiler.
-fn beside(a: u8, b: u8, c: u8, d: u8, e: u8, f: u8, g: u8, h: u8) -> u64
+// Eight bytes as one number, the first byte lowest. The compiler merges eight adjacent loads into one.
+fn eight_bytes(a: u8, b: u8, c: u8, d: u8, e: u8, f: u8, g: u8, h: u8) -> u64
     ensures { λ r. ⌜ r ≡ lanes 8 (a ∷ b ∷ c ∷ d ∷ e ∷ f ∷ g ∷ h ∷ []) ⌝ }
 {
     a as u64
@@ -80,15 +64,15 @@ fn beside(a: u8, b: u8, c: u8, d: u8, e: u8, f: u8, g: u8, h: u8) -> u64
         + h as u64 * 0x100_0000_0000_0000
 }
 
-// The numbers of eight bytes that are digits: that of the first four in the lower half, that of the others
-// in the upper. A letter has bit 6, and its low digit counts from 1 for A. Then two digits become one
-// number, and two of these.
+// The numbers of two groups of four digits, read at once: the first in the lower 32 bits, the second in the
+// upper. `n` holds the number of each digit: a letter has bit 6, and its low four bits are 1 for A. `p`
+// holds the number of each two digits, and the result that of each four.
 fn two_fours(text: &[u8], at: usize) -> u64
     requires { ⌜ at + 8 ≤ length (now text) ⌝ }
     requires { ⌜ allDigits (take 8 (drop at (now text))) ≡ true ⌝ }
-    ensures { λ r. ⌜ r ≡ lanes 32 (fourAt (now (text .entry)) at ∷ fourAt (now (text .entry)) (at + 4) ∷ []) ⌝ }
+    ensures { λ r. ⌜ r ≡ lanes 32 (fieldAt at 4 (now (text .entry)) ∷ fieldAt (at + 4) 4 (now (text .entry)) ∷ []) ⌝ }
 {
-    let v = beside(
+    let v = eight_bytes(
         text[at],
         text[at + 1],
         text[at + 2],
@@ -103,8 +87,8 @@ fn two_fours(text: &[u8], at: usize) -> u64
     (p & 0x0000_00FF_0000_00FF) * 0x100 + (p / 0x1_0000 & 0x0000_00FF_0000_00FF)
 }
 
-// The 20 bytes from `from` on. Op and mode, which decide what is done, are soonest known by the table; the
-// 16 digits behind them are looked at all at once and read eight at a time.
+// The 20 bytes from `from` on. Op and mode select the operation, and the table gives them soonest. The other
+// 16 digits are tested all at once and read eight at a time.
 pub fn fields_at(table: &[u8; 256], text: &[u8], from: usize) -> Read
     requires { ⌜ DigitTable (now table) ⌝ }
     requires { ⌜ from + 20 ≤ length (now text) ⌝ }
@@ -127,20 +111,26 @@ pub fn fields_at(table: &[u8; 256], text: &[u8], from: usize) -> Read
     Read::Digit
 }
 
-// The line stands without its line feed. It is read by the table alone, and not by `fields_at`: that has one
-// caller, the road of good lines, and so the compiler makes it part of that road.
-pub fn read_fields(table: &[u8; 256], line: &[u8]) -> Read
-    requires { ⌜ DigitTable (now table) ⌝ }
+// A line without its line feed, read without a table: for one line a table takes longer to build than the
+// line to read. The lower half of X is read twice, because eight digits are read as quickly as four.
+// This does not call `fields_at`: the compiler inlines that into `found::read_at`, its only caller.
+pub fn read_fields(line: &[u8]) -> Read
     ensures { λ r. ⌜ r ≡ readOf (now (line .entry)) ⌝ }
 {
     if line.len() != 20 {
         return Read::Length;
     }
-    grouped(
-        four_at(table, line, 0),
-        four_at(table, line, 4),
-        four_at(table, line, 8),
-        four_at(table, line, 12),
-        four_at(table, line, 16),
-    )
+    if numbers::all_digits(line, 0, 20) {
+        let a = two_fours(line, 0);
+        let b = two_fours(line, 8);
+        let c = two_fours(line, 12);
+        return Read::Fields(Fields {
+            op: (a / 0x100 % 0x100) as u8,
+            mode: (a % 0x100) as u8,
+            flags: (a / 0x1_0000_0000) as u16,
+            x: (b % 0x1_0000 * 0x1_0000 + c % 0x1_0000) as u32,
+            y: (c / 0x1_0000_0000) as u16,
+        });
+    }
+    Read::Digit
 }

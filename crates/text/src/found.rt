@@ -13,22 +13,21 @@ pub struct Found {
     pub end: usize,
 }
 
-// The line feed is looked for byte by byte, and then the line is read.
-fn sought(table: &[u8; 256], text: &[u8], from: usize) -> Found
-    requires { ⌜ DigitTable (now table) ⌝ }
+// Searches for the line feed byte by byte, then reads the line.
+fn sought(text: &[u8], from: usize) -> Found
     requires { ⌜ from ≤ length (now text) ⌝ }
     ensures { λ r. ⌜ r ≡ foundOf (now (text .entry)) from ⌝ }
 {
     let end = lines::line_end(text, from);
     Found {
-        read: fields::read_fields(table, &text[from..end]),
+        read: fields::read_fields(&text[from..end]),
         end,
     }
 }
 
-// Where 20 digits stand before a line feed no other is looked for: a line feed is no digit. Nearly every
-// line of a good text is of this kind. All others are sought in one place, which the compiler keeps out of
-// the way.
+// Reads the line that starts at `from`. If 20 digits and a line feed stand there, that is the line: a line
+// feed is not a digit, so no search is needed. Nearly every line of a good text is of this kind. All other
+// lines go through `sought`.
 pub fn read_at(table: &[u8; 256], text: &[u8], from: usize) -> Found
     requires { ⌜ DigitTable (now table) ⌝ }
     requires { ⌜ from ≤ length (now text) ⌝ }
@@ -45,5 +44,5 @@ pub fn read_at(table: &[u8; 256], text: &[u8], from: usize) -> Found
             }
         }
     }
-    sought(table, text, from)
+    sought(text, from)
 }

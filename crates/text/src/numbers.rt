@@ -1,5 +1,5 @@
-// Digits read without a table: for one line at a time, where a table would take longer to build than a
-// line to read. Nothing here has a branch for a digit, so that the compiler takes many at a time.
+// Digits read without a table, for one line at a time: a table takes longer to build than a line to read.
+// No function branches on a digit, so the compiler can test many bytes at once.
 ghost use mathlib.Core.Bool.{true};
 ghost use mathlib.Core.Path.{_≡_};
 ghost use Prim.Native.Nat.{_+_, _≤_};
@@ -15,8 +15,8 @@ fn is_digit(byte: u8) -> bool
         | ((0x61 <= byte) & (byte <= 0x66))
 }
 
-// Whether the `count` bytes from `from` on are digits. Every byte is looked at: with no way out of the
-// loop the compiler takes many at a time.
+// Whether the `count` bytes from `from` on are all digits. The loop has no early exit, so the compiler can
+// test many bytes at once.
 pub fn all_digits(text: &[u8], from: usize, count: usize) -> bool
     requires { ⌜ from + count ≤ length (now text) ⌝ }
     ensures { λ r. ⌜ r ≡ allDigits (take count (drop from (now (text .entry)))) ⌝ }
@@ -30,7 +30,7 @@ pub fn all_digits(text: &[u8], from: usize, count: usize) -> bool
     all
 }
 
-// The number of a byte that is a digit: letters have bit 6, and their low digit counts from 1 for A.
+// The number of a byte that is a digit. A letter has bit 6, and its low four bits are 1 for A.
 fn value(byte: u8) -> u8
     requires { ⌜ isDigit byte ≡ true ⌝ }
     ensures { λ r. ⌜ r ≡ digitOf byte ⌝ }

@@ -9,8 +9,9 @@ ghost use Rattle.text.specs.Lanes.{lanes};
 ghost use Rattle.text.specs.Written.{four, written};
 use crate::digits;
 
-// The eight digits of two numbers, a byte each, the first digit lowest. The numbers are taken apart into
-// bytes, and these into digits. 6 more than a digit above 9 has bit 4 set, and its letter is 7 further on.
+// The eight digits of two numbers as capitals, one in each byte, the first digit in the lowest. `p` holds the
+// bytes of the numbers, and `n` their digits. A digit above 9 has bit 4 set once 6 is added. It gets 7 more,
+// since A stands 8 places after 9.
 fn eight_capitals(first: u16, second: u16) -> u64
     ensures { λ r. ⌜ r ≡ lanes 8 (four capitalOf first ++ four capitalOf second) ⌝ }
 {
@@ -20,8 +21,8 @@ fn eight_capitals(first: u16, second: u16) -> u64
     n + 0x3030_3030_3030_3030 + ((n + 0x0606_0606_0606_0606) & 0x1010_1010_1010_1010) / 0x10 * 7
 }
 
-// The four digits of `first` and those of `second` go in from `at`. Stores that stand side by side, the
-// lowest byte first, are one to the compiler.
+// Writes the four digits of `first` and then those of `second`, from `at` on. The compiler merges eight
+// adjacent stores into one if the lowest byte is stored first.
 fn put_eight(first: u16, second: u16, out: &mut [u8], at: usize)
     requires { ⌜ at + 8 ≤ length (now out) ⌝ }
     ensures { λ _. ⌜ now (out .exit) ≡ sets (now (out .entry)) at (four capitalOf first ++ four capitalOf second) ⌝ }
@@ -37,7 +38,7 @@ fn put_eight(first: u16, second: u16, out: &mut [u8], at: usize)
     out[at + 7] = (c / 0x100_0000_0000_0000 % 0x100) as u8;
 }
 
-// Bytes after the 19th stay as they were.
+// Writes 19 bytes. The bytes after them stay as they were.
 pub fn write(table: &[u8; 16], status: u8, flags: u16, steps: u16, r: u16, s: u16, out: &mut [u8])
     requires { ⌜ CapitalTable (now table) ⌝ }
     requires { ⌜ 19 ≤ length (now out) ⌝ }

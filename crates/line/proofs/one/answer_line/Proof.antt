@@ -17,7 +17,7 @@ unfolding answerOf textOf
 returns-2 c =
     let at = c .before .before in
     let read = at .before .before .before .before .read-fields in
-    let start = at .before .before .before .before .before .before .before .before .before in
+    let start = at .before .before .before .before .before .before .before in
     let h = le-ltb _ _ (start .if1 .left) in
     let out = start .before .before .before .args .out .now in
     (rw h (at .write-answer .ensures .0 ∙ ap (λ (q : Read). answerBy q .status) (read .ensures)), rw h (at .write-answer .ensures .1 ∙ ap (λ (q : Read). textBy (answerBy q) ++ drop 19 out) (read .ensures)))
@@ -25,4 +25,4 @@ returns-2 c =
 pub answer-line-spec : {M : Type 1} → statement M
 answer-line-spec =
     tie.close
-    (tie.spec returns (λ c κs. search needs) (λ c κs. search needs) (λ c κs. search needs) (λ c κs. search needs) (λ c κs. search needs) (λ c. search needs) returns-2)
+    (tie.spec returns (λ c κs. search needs) (λ c κs. search needs) (λ c κs. search needs) (λ c κs. search needs) (λ c. search needs) returns-2)

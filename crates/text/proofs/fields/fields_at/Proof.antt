@@ -1,13 +1,14 @@
 -- `text::fields::fields_at` meets its contract: four digits by their number, and sixteen by eights. Assumes nothing.
 use mathlib.Core.Path.{_≡_, sym, _∙_}
 use mathlib.Core.Bool.{true}
-use Prim.Native.Nat.{_+_}
+use mathlib.Core.List.{List}
+use Prim.Native.Nat.{ℕ, _+_}
 use native.Mathlib.Omega.{arith}
 use lib.ListN.{take, drop}
 use borrow.Author.Needs.{needs}
 use Rattle.text.specs.Plain.{allDigits}
 use Rattle.text.proofs.DigitsAt.{digits-within}
-use Rattle.text.proofs.EightLaws.{by-eights, refused-first, refused-rest, read-there}
+use Rattle.text.proofs.EightLaws.{LastFields, by-eights, first-fields, refused-first, refused-rest, read-there}
 use Rattle.text.proofs.fields.fields_at.Statement.{statement}
 use Rattle.text.proofs.fields.fields_at.Tie as tie
 
@@ -27,29 +28,30 @@ two-fours-requires-2 c κs =
     let a = start (c .before) .args in
     (omega arith, digits-within (a .text .now) (a .from + 4) 16 (a .from + 12) 8 (all (c .before)) (omega arith) (omega arith))
 
-cast-t20 : tie.Need-cast-t20
-cast-t20 c =
-    let a = start (c .before .before) .args in
-    let p = by-eights (a .text .now) (a .from) (omega arith) (all (c .before .before)) (c .before .two-fours .ensures) (c .two-fours2 .ensures) in
-    omega (arith, p)
+-- what the two words hold
+module _ (c : tie.After-two-fours2) where
+  abbrev text : List ℕ
+  text = start (c .before .before) .args .text .now
 
-cast-t22 : tie.Need-cast-t22
-cast-t22 c =
-    let a = start (c .before .before) .args in
-    let p = by-eights (a .text .now) (a .from) (omega arith) (all (c .before .before)) (c .before .two-fours .ensures) (c .two-fours2 .ensures) in
-    omega (arith, p)
+  abbrev from : ℕ
+  from = start (c .before .before) .args .from
+
+  words : LastFields text from (c .before .two-fours .result) (c .two-fours2 .result)
+  words = by-eights text from (omega arith) (all (c .before .before)) (c .before .two-fours .ensures) (c .two-fours2 .ensures)
 
 returns : tie.Need-returns
 returns c =
-    let a = start (c .before .before) .args in
     let first = c .before .before .before .before in
-    read-there (a .text .now) (a .from) (omega arith) (first .before .four-at .ensures) (first .if1 .taken) (all (c .before .before)) (c .before .two-fours .ensures) (c .two-fours2 .ensures)
+    let is = first .before .four-at .ensures in
+    let n = first-fields (text c) (from c) (omega arith) is (first .if1 .taken) in
+    let w = words c in
+    read-there (text c) (from c) (omega arith) is (first .if1 .taken) (all (c .before .before)) (omega (arith, n)) (omega (arith, n)) (omega (arith, w)) (omega (arith, w)) (omega (arith, w))
 
 returns-2 : tie.Need-returns-2
 returns-2 c =
     let first = c .before .before in
     let a = first .before .before .before .args in
-    refused-rest (a .text .now) (a .from) (omega arith) (first .before .four-at .ensures) (first .if1 .taken) (sym (c .before .all-digits .ensures) ∙ c .if2 .left)
+    refused-rest (a .text .now) (a .from) (omega arith) (sym (c .before .all-digits .ensures) ∙ c .if2 .left)
 
 returns-3 : tie.Need-returns-3
 returns-3 c =
@@ -60,5 +62,5 @@ pub fields-at-spec : {M : Type 1} → statement M
 fields-at-spec =
     tie.close
     (tie.spec (λ c κs. search needs) (λ c. search needs) (λ c κs. search needs) (λ c. search needs) two-fours-requires (λ c. search needs)
-    two-fours-requires-2 (λ c. search needs) (λ c. search needs) (λ c. search needs) (λ c. search needs) cast-t20 cast-t22 returns returns-2
+    two-fours-requires-2 (λ c. search needs) (λ c. search needs) (λ c. omega (arith, words c)) (λ c. search needs) (λ c. omega (arith, words c)) (λ c. omega (arith, words c)) returns returns-2
     returns-3)
