@@ -1,3 +1,3 @@
-pub mod Walk
+pub mod ToldLaws
 pub mod Rows
 pub mod RoadsPage

@@ -2,8 +2,7 @@
 use mathlib.Core.Path.{_≡_, refl, sym, ap, _∙_}
 use mathlib.Core.Bool.{Bool, true, false, not, cond, _||_, true≢false}
 use mathlib.Core.List.{[], _∷_}
-use Prim.Native.Nat.{ℕ, _+_, _%_, _^_, _≤_, _<_}
-use native.Mathlib.Nat.{mod-eq-of-lt}
+use Prim.Native.Nat.{ℕ, _+_, _^_, _≤_, _<_}
 use native.Mathlib.Omega.{arith}
 use lib.Bits.{bitAnd}
 use lib.Dec.{ltb, eqb}
@@ -68,6 +67,12 @@ neither : (a b : Bool) → a || b ≡ false → (a ≡ false) × (b ≡ false)
 neither true b e = absurd (true≢false e)
 neither false b e = (refl, e)
 
+-- operands within the limits fit eight bits
+pub byte-fits : {x y : ℕ} → ltb 0xFFFF x || ltb 0xFF y ≡ false → (x < 2 ^ 16) × (y < 2 ^ 8)
+byte-fits {x} {y} e =
+    let fit = neither (ltb 0xFFFF x) (ltb 0xFF y) e in
+    (omega (arith, ltb-false 0xFFFF x (fit .0)), omega (arith, ltb-false 0xFF y (fit .1)))
+
 module _ (mode x y : ℕ) (hm : mode ≤ 0x07) where
   -- sixteen bits have room for every operand
   pub told-word : (bitAnd mode 0x01 ≡ 0 → ⊥) → x < 2 ^ 32 → y < 2 ^ 16 → toldBy 16 (not (eqb (bitAnd mode 0x02) 0)) x y ≡ roadsTold mode x y
@@ -79,10 +84,7 @@ module _ (mode x y : ℕ) (hm : mode ≤ 0x07) where
     pub told-byte-large : ltb 0xFFFF x || ltb 0xFF y ≡ true → tallied 5 (0 ∷ 0 ∷ []) ≡ roadsTold mode x y
     told-byte-large e = sym (told-large mode x y hm (rw (set-unmasked 0 mode h) e))
 
-    pub told-byte : ltb 0xFFFF x || ltb 0xFF y ≡ false → toldBy 8 (not (eqb (bitAnd mode 0x02) 0)) (x % 0x1_0000) (y % 0x100) ≡ roadsTold mode x y
-    told-byte e =
-        let fit = neither (ltb 0xFFFF x) (ltb 0xFF y) e in
-        let hx : x < 0x1_0000 = omega (arith, ltb-false 0xFFFF x (fit .0)) in
-        let hy : y < 0x100 = omega (arith, ltb-false 0xFF y (fit .1)) in
+    pub told-byte : x < 2 ^ 16 → y < 2 ^ 8 → toldBy 8 (not (eqb (bitAnd mode 0x02) 0)) x y ≡ roadsTold mode x y
+    told-byte hx hy =
         let narrow = set-unmasked 0 mode h in
-        (λ i. toldBy 8 (mask-bit 1 mode i) (mod-eq-of-lt hx i) (mod-eq-of-lt hy i)) ∙ sym (told-admitted mode x y hm (rw narrow hx) (rw narrow hy) ∙ rw narrow)
+        ap (λ (s : Bool). toldBy 8 s x y) (mask-bit 1 mode) ∙ sym (told-admitted mode x y hm (rw narrow hx) (rw narrow hy) ∙ rw narrow)

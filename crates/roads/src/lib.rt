@@ -1,22 +1,20 @@
-// By which of two roads the ones of a divide's quotient came, of a divide given as numbers, which no caller
-// has checked. CORD walks the magnitudes, as it does for the divide itself, and its tallies are told; a mode or
-// an operand that a divide does not have is told by its status, and so is why the divide is refused. With a
-// second caller `div8` and `div16` would no longer be compiled into `ask`.
+// Counts the ones of a divide's quotient by the two roads that make one: a bit shifted out, and no borrow. The
+// divide is given as numbers that no caller has checked. An invalid mode or operand is refused with its status,
+// and so is a divide that the chip refuses. The comparison of `trap` refuses before CORD walks.
+// CORD is called here, and not `div8` and `div16`. With a second caller the compiler would no longer inline
+// those two into `ask`, and every divide would take longer.
 ghost use mathlib.Core.Path.{_≡_};
-ghost use mathlib.Core.Bool.{false, not, cond, _||_};
+ghost use mathlib.Core.Logic.{_⊎_};
 ghost use mathlib.Core.List.{[], _∷_};
-ghost use Prim.Native.Nat.{_^_, _≤_, _<_};
+ghost use Prim.Native.Nat.{_+_, _^_, _≤_, _<_};
 ghost use Rattle.flags.specs.Numbers.{magnitude};
-ghost use Rattle.divide.specs.Finish.{firstRefusal};
-ghost use Rattle.answer.specs.Charted.{refusalStatus};
-ghost use Rattle.roads.specs.Told.{tallied, toldBy, roadsTold};
-use cord::CordOutcome8;
-use cord::CordOutcome16;
+ghost use Rattle.cord.specs.Cord.{cord};
+ghost use Rattle.roads.specs.Told.{tallied, listed, toldBy, roadsTold};
 use flags::width::Width8;
 use flags::width::Width16;
 use trap::compare;
 
-// Where a divide is not done there are no ones to tell of.
+// A divide that is not done has no ones to count.
 fn none(status: u8, roads: &mut [u16; 2]) -> u8
     ensures { λ r. ⌜ tallied r (now (roads .exit)) ≡ tallied status (0 ∷ 0 ∷ []) ⌝ }
 {
@@ -24,7 +22,7 @@ fn none(status: u8, roads: &mut [u16; 2]) -> u8
     status
 }
 
-// What CORD works on.
+// The number that CORD works on.
 fn magnitude_by(signed: bool, bits: u32, number: u64) -> u64
     requires { ⌜ (number < 2 ^ bits) × (8 ≤ bits) × (bits ≤ 32) ⌝ }
     ensures { λ r. ⌜ r ≡ magnitude signed bits number ⌝ }
@@ -36,62 +34,61 @@ fn magnitude_by(signed: bool, bits: u32, number: u64) -> u64
     }
 }
 
-// CORD's first compare refuses for either of two reasons, and the divisor tells which.
-fn first_status(divisor: u16) -> u8
-    ensures { λ r. ⌜ r ≡ refusalStatus (firstRefusal divisor) ⌝ }
+// 0 if the divide is accepted, or the status of its refusal. One comparison refuses. Only a refused divide is
+// asked why: the divisor is 0, or the magnitudes are refused without a sign too, or the sign needs the bit.
+fn status_of(bits: u32, dividend: u32, divisor: u16, signed: bool) -> u8
+    requires { ⌜ (dividend < 2 ^ (bits + bits)) × (divisor < 2 ^ bits) × (8 ≤ bits) × (bits ≤ 16) ⌝ }
+    ensures { λ r. ⌜ r ≡ toldBy bits signed dividend divisor .status ⌝ }
 {
-    if divisor == 0 { 6 } else { 8 }
+    if !compare::would_trap(bits, dividend as u64, divisor as u64, signed) {
+        return 0;
+    }
+    if divisor == 0 {
+        return 6;
+    }
+    let whole = magnitude_by(signed, bits + bits, dividend as u64);
+    let tmpb = magnitude_by(signed, bits, divisor as u64);
+    if compare::would_trap(bits, whole, tmpb, false) {
+        8
+    } else {
+        9
+    }
 }
 
-// What CORD accepts is refused yet if it is signed and the quotient is not below the top bit, as C says.
-fn counted(signed: bool, carry: bool, shifted_out: u16, no_borrow: u16, roads: &mut [u16; 2]) -> u8
-    ensures { λ r. ⌜ tallied r (now (roads .exit)) ≡ cond (not signed || carry) (tallied 0 («shifted_out» ∷ «no_borrow» ∷ [])) (tallied 9 (0 ∷ 0 ∷ [])) ⌝ }
+// CORD at the width of `bits`, and its two tallies.
+fn walk(bits: u32, whole: u64, tmpb: u64, roads: &mut [u16; 2]) -> u8
+    requires { ⌜ ((bits ≡ 8) ⊎ (bits ≡ 16)) × (whole < 2 ^ (bits + bits)) × (tmpb < 2 ^ bits) ⌝ }
+    ensures { λ r. ⌜ tallied r (now (roads .exit)) ≡ tallied 0 (listed (cord bits tmpb whole 0 .roads)) ⌝ }
 {
-    if signed & !carry {
-        return none(9, roads);
+    if bits == Width8::BITS {
+        let byte = cord::cord8((whole / 0x100) as u8, tmpb as u8, (whole % 0x100) as u8, 0);
+        *roads = [byte.shifted_out, byte.no_borrow];
+        return 0;
     }
-    *roads = [shifted_out, no_borrow];
+    let upper = (whole / 0x1_0000) as u16;
+    let word = cord::cord16(upper, tmpb as u16, (whole % 0x1_0000) as u16, 0);
+    *roads = [word.shifted_out, word.no_borrow];
     0
 }
 
-fn told8(dividend: u16, divisor: u8, signed: bool, roads: &mut [u16; 2]) -> u8
-    ensures { λ r. ⌜ tallied r (now (roads .exit)) ≡ toldBy 8 signed dividend divisor ⌝ }
+// A valid divide at either width. Each caller passes a constant for `bits`, which the compiler folds.
+fn told(bits: u32, dividend: u32, divisor: u16, signed: bool, roads: &mut [u16; 2]) -> u8
+    requires { ⌜ ((bits ≡ 8) ⊎ (bits ≡ 16)) × (dividend < 2 ^ (bits + bits)) × (divisor < 2 ^ bits) ⌝ }
+    ensures { λ r. ⌜ tallied r (now (roads .exit)) ≡ toldBy bits signed dividend divisor ⌝ }
 {
-    let whole = magnitude_by(signed, Width16::BITS, dividend as u64);
-    let tmpb = magnitude_by(signed, Width8::BITS, divisor as u64);
-    let made = cord::cord8((whole / 0x100) as u8, tmpb as u8, (whole % 0x100) as u8, 0);
-    let outcome = made.outcome;
-    match outcome {
-        CordOutcome8::Accepted(results) => {
-            counted(signed, made.carry, made.shifted_out, made.no_borrow, roads)
-        }
-        CordOutcome8::Refused => none(first_status(divisor as u16), roads),
+    let status = status_of(bits, dividend, divisor, signed);
+    if status != 0 {
+        return none(status, roads);
     }
+    let whole = magnitude_by(signed, bits + bits, dividend as u64);
+    let tmpb = magnitude_by(signed, bits, divisor as u64);
+    walk(bits, whole, tmpb, roads)
 }
 
-fn told16(dividend: u32, divisor: u16, signed: bool, roads: &mut [u16; 2]) -> u8
-    ensures { λ r. ⌜ tallied r (now (roads .exit)) ≡ toldBy 16 signed dividend divisor ⌝ }
-{
-    let whole = magnitude_by(signed, 2 * Width16::BITS, dividend as u64);
-    let tmpb = magnitude_by(signed, Width16::BITS, divisor as u64);
-    let made = cord::cord16(
-        (whole / 0x1_0000) as u16,
-        tmpb as u16,
-        (whole % 0x1_0000) as u16,
-        0,
-    );
-    let outcome = made.outcome;
-    match outcome {
-        CordOutcome16::Accepted(results) => {
-            counted(signed, made.carry, made.shifted_out, made.no_borrow, roads)
-        }
-        CordOutcome16::Refused => none(first_status(divisor), roads),
-    }
-}
-
-// The limits of a divide stand here once more, as they do in `trap`, and the laws `told-mode`, `told-large`
-// and `told-admitted` hold them to the table: with a second caller `judge` would no longer be compiled into
-// `ask`. REP changes nothing of it.
+// The limits of a divide are tested here, as they are in `trap`. The laws `told-mode`, `told-large` and
+// `told-admitted` hold them to the table of statuses. `request::decode` and `answer::chart` test them too. With a
+// second caller the compiler would no longer inline those into `ask`, and every request would take longer. REP
+// changes nothing.
 pub fn roads(mode: u8, dividend: u32, divisor: u16, roads: &mut [u16; 2]) -> u8
     ensures { λ r. ⌜ tallied r (now (roads .exit)) ≡ roadsTold mode dividend divisor ⌝ }
 {
@@ -100,11 +97,10 @@ pub fn roads(mode: u8, dividend: u32, divisor: u16, roads: &mut [u16; 2]) -> u8
     }
     let signed = mode & 0x02 != 0;
     if mode & 0x01 != 0 {
-        return told16(dividend, divisor, signed, roads);
+        return told(Width16::BITS, dividend, divisor, signed, roads);
     }
     if (dividend > Width16::MAX as u32) | (divisor > Width8::MAX as u16) {
         return none(5, roads);
     }
-    let half = (dividend % 0x1_0000) as u16;
-    told8(half, (divisor % 0x100) as u8, signed, roads)
+    told(Width8::BITS, dividend, divisor, signed, roads)
 }

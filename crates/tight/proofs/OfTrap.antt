@@ -9,6 +9,9 @@ module _ {M : Type 1} where
   pub compare-magnitude-of : Tight M compare.magnitude_of.signature compare.magnitude_of.clauses
   compare-magnitude-of c g r s = plainly (c .𝓤) (λ e d. (same e d, refl))
 
+  pub compare-would-trap : Tight M compare.would_trap.signature compare.would_trap.clauses
+  compare-would-trap c g r s = plainly (c .𝓤) (λ e d. (same e d, refl))
+
   pub compare-would-trap8 : Tight M compare.would_trap8.signature compare.would_trap8.clauses
   compare-would-trap8 c g r s = plainly (c .𝓤) (λ e d. (same e d, refl))
 

@@ -29,7 +29,7 @@ pub fn magnitude_of(bits: u32, number: u64) -> u64
 
 // Whether the dividend is at least 2 ^ bits times the divisor. Signed, half as many times are too many: the
 // quotient needs a bit for its sign.
-fn would_trap(bits: u32, dividend: u64, divisor: u64, signed: bool) -> bool
+pub fn would_trap(bits: u32, dividend: u64, divisor: u64, signed: bool) -> bool
     requires { ⌜ (dividend < 2 ^ (bits + bits)) × (divisor < 2 ^ bits) × (8 ≤ bits) × (bits ≤ 16) ⌝ }
     ensures { λ r. ⌜ r ≡ not (accepts bits signed dividend divisor) ⌝ }
 {

@@ -1,8 +1,9 @@
 -- `roads::roads` meets its contract: the rows of the table for a divide, by the width that its mode names. Assumes nothing.
-use mathlib.Core.Path.{sym, _∙_}
+use mathlib.Core.Path.{refl, sym, _∙_}
+use mathlib.Core.Logic.{inl, inr}
 use native.Mathlib.Omega.{arith}
 use borrow.Author.Needs.{needs}
-use Rattle.roads.proofs.Rows.{told-mode, told-word, told-byte-large, told-byte}
+use Rattle.roads.proofs.Rows.{told-mode, told-word, byte-fits, told-byte-large, told-byte}
 use Rattle.roads.proofs.roads.Statement.{statement}
 use Rattle.roads.proofs.roads.Tie as tie
 
@@ -17,7 +18,7 @@ word c =
     let at = c .before .before in
     let first = at .before in
     let a = first .before .args in
-    c .told16 .ensures ∙ told-word (a .mode) (a .dividend) (a .divisor) (omega (arith, first .if1 .left)) (at .if2 .taken) (omega arith) (omega arith)
+    c .told .ensures ∙ told-word (a .mode) (a .dividend) (a .divisor) (omega (arith, first .if1 .left)) (at .if2 .taken) (omega arith) (omega arith)
 
 large : tie.Need-returns-3
 large c =
@@ -33,10 +34,11 @@ byte c =
     let narrow = at .before in
     let first = narrow .before in
     let a = first .before .args in
-    c .told8 .ensures ∙ told-byte (a .mode) (a .dividend) (a .divisor) (omega (arith, first .if1 .left)) (narrow .if2 .left) (at .if3 .left)
+    let fit = byte-fits (at .if3 .left) in
+    c .told2 .ensures ∙ told-byte (a .mode) (a .dividend) (a .divisor) (omega (arith, first .if1 .left)) (narrow .if2 .left) (fit .0) (fit .1)
 
 pub roads-spec : {M : Type 1} → statement M
 roads-spec =
     tie.close
-    (tie.spec (λ c κs. search needs) mode (λ c κs. search needs) word (λ c. search needs) (λ c. search needs) (λ c κs. search needs) large (λ c. search needs) (λ c. search needs)
-    (λ c κs. search needs) byte)
+    (tie.spec (λ c κs. search needs) mode (λ c κs. (inr refl, omega arith, omega arith)) word (λ c. search needs) (λ c. search needs) (λ c κs. search needs) large
+    (λ c κs. let fit = byte-fits (c .before .if3 .left) in (inl refl, fit .0, fit .1)) byte)
