@@ -1,14 +1,10 @@
 -- What `at_once` computes of a number of m bits, by shifts and masks of 64 bits, is what the steps come to. Assumes nothing.
-use mathlib.Core.Path.{_≡_, sym, ap, _∙_}
-use mathlib.Core.Bool.{Bool, true, false}
+use mathlib.Core.{Path._≡_, Path.sym, Path.ap, Path._∙_, Bool.Bool, Bool.true, Bool.false}
 use Prim.Native.Nat.{ℕ, _+_, _-_, _*_, _/_, _%_, _^_, _≤_, _<_, min}
-use native.Mathlib.Nat.{lt-of-lt-of-le, pow-le-pow-right, zero-mod, mul-assoc, min-le-right, mod-lt, mul-add-div-right}
-use native.Mathlib.Omega.{arith}
-use lib.Arith.{digits-mod, digits-lt}
-use lib.Bits.{bitAnd, bitOr, and-mask, or-shifted}
-use lib.Dec.{lit<}
+use native.Mathlib.{Nat.lt-of-lt-of-le, Nat.pow-le-pow-right, Nat.zero-mod, Nat.mul-assoc, Nat.min-le-right, Nat.mod-lt, Nat.mul-add-div-right, Omega.arith}
+use lib.{Arith.digits-mod, Arith.digits-lt, Bits.bitAnd, Bits.bitOr, Bits.and-mask, Bits.or-shifted, Dec.lit<}
 use lib.Pow.{pow-add, pow-pos, shr-lt, shl-exact, split, low, ones-split, ones-lt}
-use Rattle.flags.specs.Numbers.{bit, topSet}
+use Rattle.numbers.specs.Numbers.{bit, topSet}
 use Rattle.alu.specs.Step.{Shl, Shr, Sar, Rol, Ror, before, steps}
 use Rattle.alu.proofs.TurnLaws.{turned}
 use Rattle.alu.proofs.CountLaws.{shl-value, shr-value, sar-value, ror-value, rol-value, shl-cut, shr-cut, sar-cut}

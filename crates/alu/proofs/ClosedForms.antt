@@ -1,20 +1,15 @@
 -- The shifts and rotates of n bits in closed form: what the steps of a whole count come to, for every number of n bits and
 -- every count, 0 included. The definitions stay the single step repeated; these are laws about them.
 -- Assumes nothing.
-use mathlib.Core.Path.{_≡_, refl, sym, ap, _∙_}
-use mathlib.Core.Bool.{Bool, true, false}
+use mathlib.Core.{Path._≡_, Path.refl, Path.sym, Path.ap, Path._∙_, Bool.Bool, Bool.true, Bool.false}
 use Prim.Native.Nat.{ℕ, zero, suc, _+_, _-_, _*_, _/_, _%_, _^_, _<_}
-use native.Mathlib.Nat.{mul-div-mul-right, div-div-eq-div-mul, pow-suc, mod-mod, mul-assoc, div-one}
-use native.Mathlib.Omega.{arith}
-use lib.Arith.{digits-mod, digits-div}
-use lib.Dec.{eqb, lit<}
-use lib.Pow.{mod-mod-pow, field}
-use Rattle.flags.specs.Numbers.{bit, isSet, topSet}
-use Rattle.flags.proofs.WordLaws.{bit-le, flag-of}
+use native.Mathlib.{Nat.mul-div-mul-right, Nat.div-div-eq-div-mul, Nat.pow-suc, Nat.mod-mod, Nat.mul-assoc, Nat.div-one, Omega.arith}
+use lib.{Arith.digits-mod, Arith.digits-div, Dec.eqb, Dec.lit<, Pow.mod-mod-pow, Pow.field}
+use Rattle.numbers.specs.Numbers.{bit, isSet, topSet}
+use Rattle.numbers.proofs.BitLaws.{bit-le, flag-of}
 use Rattle.alu.specs.Step.{Shift, Shl, Shr, Sar, Rol, Ror, Rcl, Rcr, Step, before, steps}
 use Rattle.alu.specs.Shift.{ofLast, leftward, rightward}
-use Rattle.alu.proofs.StepLaws.{steps-keep}
-use Rattle.alu.proofs.TurnLaws.{turned}
+use Rattle.alu.proofs.{StepLaws.steps-keep, TurnLaws.turned}
 use Rattle.alu.proofs.CountLaws.{signs, shl-value, shr-value, sar-value, ror-value, rol-value}
 use Rattle.alu.proofs.OneBitMore.{above, below, below-top, shl-above, rcl-above, rcr-above, shr-below, sar-below, rol-carry, ror-carry}
 

@@ -1,19 +1,14 @@
 -- The result after a whole count of steps, over the width n, and how long a count matters. Assumes nothing.
-use mathlib.Core.Path.{_≡_, refl, sym, ap, _∙_}
-use mathlib.Core.Bool.{Bool, true, false}
+use mathlib.Core.{Path._≡_, Path.refl, Path.sym, Path.ap, Path._∙_, Bool.Bool, Bool.true, Bool.false}
 use Prim.Native.Nat.{ℕ, zero, suc, _+_, _-_, _*_, _/_, _%_, _^_, _≤_, _<_, min}
 use native.Mathlib.Nat.{mul-mod-left, pow-le-pow-right, min-eq-left, min-eq-right, pow-suc, mod-eq-of-lt, div-one, div-eq-of-lt, div-add-mod', div-div-eq-div-mul, mul-add-div-right, mul-add-mod-self-right}
 use native.Mathlib.Omega.{arith}
-use lib.Arith.{digits-div}
-use lib.Dec.{leb, lit<}
-use lib.Pow.{pow-add, pow-pos}
+use lib.{Arith.digits-div, Dec.leb, Dec.lit<, Pow.pow-add, Pow.pow-pos}
 use borrow.Author.Tests.{leb-true, leb-false}
-use Rattle.flags.specs.Numbers.{bit, isSet, top, topSet}
-use Rattle.flags.proofs.Powers.{top-twice}
-use Rattle.flags.proofs.SignedLaws.{TopIs, top-is}
+use Rattle.numbers.specs.Numbers.{bit, isSet, top, topSet}
+use Rattle.numbers.proofs.{Powers.top-twice, SignedLaws.TopIs, SignedLaws.top-is}
 use Rattle.alu.specs.Step.{Shl, Shr, Sar, Rol, Ror, before, left, right, step, steps}
-use Rattle.alu.proofs.StepLaws.{stays}
-use Rattle.alu.proofs.TurnLaws.{turned, none-turned, all-turned, right-turn, left-turn, period}
+use Rattle.alu.proofs.{StepLaws.stays, TurnLaws.turned, TurnLaws.none-turned, TurnLaws.all-turned, TurnLaws.right-turn, TurnLaws.left-turn, TurnLaws.period}
 
 -- the signs that enter at k steps, above n bits
 abbrev pub signs : ℕ → ℕ → ℕ → ℕ

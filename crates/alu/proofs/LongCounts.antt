@@ -1,19 +1,14 @@
 -- Long counts: a shift by the width and past it, and a rotate by full turns. Assumes nothing.
-use mathlib.Core.Path.{_≡_, refl, sym, ap, _∙_}
-use mathlib.Core.Bool.{Bool, true, false, xor}
+use mathlib.Core.{Path._≡_, Path.refl, Path.sym, Path.ap, Path._∙_, Bool.Bool, Bool.true, Bool.false, Bool.xor}
 use Prim.Native.Nat.{ℕ, suc, _+_, _-_, _*_, _/_, _%_, _^_, _≤_, _<_}
-use native.Mathlib.Nat.{sub-zero, mul-mod-left, mul-div-mul-right, zero-mod, zero-div, pow-suc, div-one}
-use native.Mathlib.Omega.{arith}
-use lib.Dec.{eqb, lit<}
-use lib.Pow.{pow-pos, shl-shr}
-use Rattle.flags.specs.Numbers.{bit, isSet, top, topSet}
-use Rattle.flags.proofs.Powers.{top-twice}
+use native.Mathlib.{Nat.sub-zero, Nat.mul-mod-left, Nat.mul-div-mul-right, Nat.zero-mod, Nat.zero-div, Nat.pow-suc, Nat.div-one, Omega.arith}
+use lib.{Dec.eqb, Dec.lit<, Pow.pow-pos, Pow.shl-shr}
+use Rattle.numbers.specs.Numbers.{bit, isSet, top, topSet}
+use Rattle.numbers.proofs.Powers.{top-twice}
 use Rattle.alu.specs.Step.{Shl, Shr, Sar, before, steps}
 use Rattle.alu.specs.Shift.{ofLast, leftO, rightO, leftward, rightward, rol, ror, rcl, rcr}
-use Rattle.alu.proofs.StepLaws.{top-digit, some-step}
-use Rattle.alu.proofs.TurnLaws.{turned, none-turned, all-turned}
-use Rattle.alu.proofs.CountLaws.{sar-value, shl-past, shr-past, sar-past}
-use Rattle.alu.proofs.OneBitMore.{below, below-top, sar-below}
+use Rattle.alu.proofs.{StepLaws.top-digit, StepLaws.some-step, TurnLaws.turned, TurnLaws.none-turned, TurnLaws.all-turned}
+use Rattle.alu.proofs.{CountLaws.sar-value, CountLaws.shl-past, CountLaws.shr-past, CountLaws.sar-past, OneBitMore.below, OneBitMore.below-top, OneBitMore.sar-below}
 use Rattle.alu.proofs.ClosedForms.{cAbove, cBelow, from-above, from-below, kept, halved, whole-lt, shl-closed, shr-closed, rol-closed, ror-closed, rcl-closed, rcr-closed}
 
 clear : (n : ℕ) → cAbove n 0 ≡ before 0 false

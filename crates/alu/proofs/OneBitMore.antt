@@ -1,16 +1,11 @@
 -- C as one bit more: with it, steps of n bits are steps of n + 1. RCL so is ROL, and RCR is ROR. Assumes nothing.
-use mathlib.Core.Path.{_≡_, refl, sym, ap, _∙_}
-use mathlib.Core.Bool.{Bool, true, false}
-use Prim.Native.Nat.{ℕ, zero, suc, _+_, _-_, _*_, _/_, _%_, _^_, _<_}
-use native.Mathlib.Nat.{pow-suc, mod-eq-of-lt, div-one, div-add-mod'}
-use native.Mathlib.Omega.{arith}
-use lib.Arith.{digits-mod}
-use lib.Dec.{eqb}
+use mathlib.Core.{Path._≡_, Path.refl, Path.sym, Path.ap, Path._∙_, Bool.Bool, Bool.true, Bool.false}
+use Prim.Native.Nat.{ℕ, zero, suc, _+_, _*_, _/_, _%_, _^_, _<_}
+use native.Mathlib.{Nat.pow-suc, Nat.mod-eq-of-lt, Nat.div-one, Nat.div-add-mod', Omega.arith}
+use lib.{Arith.digits-mod, Dec.eqb}
 use borrow.Author.Tests.{le-leb, lt-leb}
-use Rattle.flags.specs.Numbers.{bit, isSet, top, topSet}
-use Rattle.flags.proofs.Powers.{top-twice, rest-small, rest-large}
-use Rattle.flags.proofs.SignedLaws.{TopIs, top-is}
-use Rattle.flags.proofs.WordLaws.{bit-le, bit-isSet, flag-of}
+use Rattle.numbers.specs.Numbers.{bit, isSet, top, topSet}
+use Rattle.numbers.proofs.{Powers.top-twice, Powers.rest-small, Powers.rest-large, SignedLaws.TopIs, SignedLaws.top-is, BitLaws.bit-le, BitLaws.bit-isSet, BitLaws.flag-of}
 use Rattle.alu.specs.Step.{Shift, Shl, Shr, Sar, Rol, Ror, Rcl, Rcr, Step, before, left, right, step, steps}
 use Rattle.alu.proofs.StepLaws.{steps-keep}
 

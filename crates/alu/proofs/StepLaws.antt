@@ -1,20 +1,13 @@
 -- Shifts and rotates over the width n: a single step of the code is one of the definition, steps keep n bits, and the flags of the last step are as the code tests them.
 -- Assumes nothing.
-use mathlib.Core.Path.{_≡_, refl, sym, ap, _∙_}
-use mathlib.Core.Bool.{Bool, true, false, not, xor, Bool·beq}
+use mathlib.Core.{Path._≡_, Path.refl, Path.sym, Path.ap, Path._∙_, Bool.Bool, Bool.true, Bool.false, Bool.not, Bool.xor, Bool.Bool·beq}
 use Prim.Native.Nat.{ℕ, zero, suc, _+_, _-_, _*_, _/_, _%_, _^_, _<_}
-use native.Mathlib.Nat.{mod-eq-of-lt, mod-lt, div-eq-of-lt}
-use native.Mathlib.Omega.{arith}
-use lib.Arith.{digits-div}
-use lib.Bits.{bitAnd, bitOr, or-shifted}
-use lib.Dec.{eqb}
-use lib.Pow.{pow-pos}
+use native.Mathlib.{Nat.mod-eq-of-lt, Nat.mod-lt, Nat.div-eq-of-lt, Omega.arith}
+use lib.{Arith.digits-div, Bits.bitAnd, Bits.bitOr, Bits.or-shifted, Dec.eqb, Pow.pow-pos}
 use borrow.Author.Tests.{le-leb, lt-leb}
-use Rattle.flags.specs.Numbers.{bit, isSet, top, topSet}
-use Rattle.flags.proofs.Powers.{top-twice, rest-small, rest-large}
-use Rattle.flags.proofs.Masks.{mask-bit, mask-top, or-bit}
-use Rattle.flags.proofs.SignedLaws.{TopIs, top-is}
-use Rattle.flags.proofs.WordLaws.{bit-le}
+use Rattle.numbers.specs.Numbers.{bit, isSet, top, topSet}
+use Rattle.numbers.proofs.{Powers.top-twice, Powers.rest-small, Powers.rest-large, Masks.mask-bit, Masks.mask-top, Masks.or-bit, SignedLaws.TopIs, SignedLaws.top-is}
+use Rattle.numbers.proofs.BitLaws.{bit-le}
 use Rattle.alu.specs.Result.{ResultCo, ResultCoa}
 use Rattle.alu.specs.Step.{Shift, Shl, Shr, Sar, Rol, Ror, Rcl, Rcr, Step, before, left, right, step, steps}
 use Rattle.alu.specs.Shift.{ofLast, leftO, rightO, withA, shl, shlAf}

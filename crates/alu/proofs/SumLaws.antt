@@ -1,23 +1,15 @@
 -- Addition and subtraction over the width n: the tests of bits in the code are the carries and the signed overflow of the definitions;
 -- and what taking 0 away leaves. Assumes nothing.
-use mathlib.Core.Path.{_≡_, refl, sym, ap, ap₂, _∙_}
-use mathlib.Core.Bool.{Bool, true, false, not, _&&_}
-use mathlib.Core.Logic.{_⊎_, inl, inr}
-use Prim.Native.Nat.{ℕ, zero, suc, _+_, _-_, _*_, _/_, _%_, _^_, _≤_, _<_}
-use native.Mathlib.Nat.{mod-lt}
-use native.Mathlib.Omega.{arith}
-use lib.Bits.{bitAnd, bitXor}
-use lib.Dec.{leb, ltb, eqb}
-use lib.IntN.{ℤ, pos, _+ℤ_, _-ℤ_}
-use lib.Pow.{pow-pos}
+use mathlib.Core.{Path._≡_, Path.refl, Path.sym, Path.ap, Path.ap₂, Path._∙_, Bool.Bool, Bool.true, Bool.false, Bool.not, Bool._&&_}
+use Prim.Native.Nat.{ℕ, _+_, _-_, _*_, _/_, _%_, _^_, _≤_, _<_}
+use native.Mathlib.{Nat.mod-lt, Omega.arith}
+use lib.{Bits.bitAnd, Bits.bitXor, Dec.leb, Dec.ltb, Dec.eqb, IntN.pos, IntN._+ℤ_, IntN._-ℤ_, Pow.pow-pos}
 use borrow.Author.Tests.{leb-true, leb-false, ltb-true, ltb-false, le-leb, lt-leb, lt-ltb, le-ltb}
-use Rattle.flags.specs.Numbers.{bit, isSet, top, topSet, signed, fitsSigned, negated}
-use Rattle.flags.proofs.Powers.{top-twice, rest-small, rest-large}
-use Rattle.flags.proofs.Masks.{mask-bit, digit-xor, digit-and, digit-top}
-use Rattle.flags.proofs.SignedLaws.{Diff, above, diff-as, diff-neg, diff-add, diff-signed, fits-diff, TopIs, top-is, same-test}
-use Rattle.flags.proofs.WordLaws.{bit-le, bit-isSet}
-use Rattle.alu.specs.Result.{ResultCoa}
-use Rattle.alu.specs.Sum.{adc, sbb, sub, neg}
+use Rattle.numbers.specs.Numbers.{bit, isSet, top, topSet, signed, fitsSigned, negated}
+use Rattle.numbers.proofs.{Powers.top-twice, Powers.rest-small, Powers.rest-large, Masks.mask-bit, Masks.digit-xor, Masks.digit-and, Masks.digit-top}
+use Rattle.numbers.proofs.SignedLaws.{above, diff-neg, diff-add, diff-signed, fits-diff, TopIs, top-is, same-test}
+use Rattle.numbers.proofs.BitLaws.{bit-le, bit-isSet}
+use Rattle.alu.specs.{Result.ResultCoa, Sum.adc, Sum.sbb, Sum.sub, Sum.neg}
 
 -- ---- overflow
 

@@ -1,18 +1,13 @@
 -- A rotation of a number of u + k bits: its lower k places come to stand above the upper u. One place more is a step
 -- of ROR, one place less a step of ROL, and a count of such steps ends where its remainder by the bits ends.
 -- Assumes nothing.
-use mathlib.Core.Path.{_≡_, refl, sym, ap, _∙_}
-use mathlib.Core.Bool.{Bool, true, false}
+use mathlib.Core.{Path._≡_, Path.refl, Path.sym, Path.ap, Path._∙_, Bool.Bool, Bool.true, Bool.false}
 use Prim.Native.Nat.{ℕ, zero, suc, _+_, _-_, _*_, _/_, _%_, _^_, _<_}
-use native.Mathlib.Nat.{pow-suc, pow-succ', mod-one, div-one, mod-lt, mod-eq-of-lt, div-eq-of-lt, div-div-eq-div-mul}
-use native.Mathlib.Omega.{arith}
-use lib.Arith.{digits-lt, digits-mod, mod-mul}
-use lib.Dec.{lit<}
-use lib.Pow.{pow-add, pow-pos, shr-lt}
+use native.Mathlib.{Nat.pow-suc, Nat.pow-succ', Nat.mod-one, Nat.div-one, Nat.mod-lt, Nat.mod-eq-of-lt, Nat.div-eq-of-lt, Nat.div-div-eq-div-mul, Omega.arith}
+use lib.{Arith.digits-lt, Arith.digits-mod, Arith.mod-mul, Dec.lit<, Pow.pow-add, Pow.pow-pos, Pow.shr-lt}
 use borrow.Author.Tests.{le-leb, lt-leb}
-use Rattle.flags.specs.Numbers.{bit, isSet, top, topSet}
-use Rattle.flags.proofs.Powers.{top-twice}
-use Rattle.flags.proofs.WordLaws.{bit-isSet}
+use Rattle.numbers.specs.Numbers.{bit, isSet, top, topSet}
+use Rattle.numbers.proofs.{Powers.top-twice, BitLaws.bit-isSet}
 
 abbrev pub turned : ℕ → ℕ → ℕ → ℕ
 turned u k w = w % 2 ^ k * 2 ^ u + w / 2 ^ k

@@ -1,17 +1,12 @@
 -- A result and its C, read off a number that was moved at once, are those of the last step. Assumes nothing.
-use mathlib.Core.Path.{_≡_, sym, ap, _∙_}
-use mathlib.Core.Bool.{Bool, false, not}
+use mathlib.Core.{Path._≡_, Path.sym, Path.ap, Path._∙_, Bool.Bool, Bool.false, Bool.not}
 use Prim.Native.Nat.{ℕ, zero, suc, _+_, _*_, _/_, _%_, _^_, _<_}
 use native.Mathlib.Omega.{arith}
-use lib.Bits.{bitAnd}
-use lib.Dec.{eqb}
-use Rattle.flags.specs.Numbers.{bit, isSet, top, topSet}
-use Rattle.flags.proofs.Masks.{mask-bit, mask-top}
-use Rattle.alu.specs.Result.{ResultC}
-use Rattle.alu.specs.Step.{Shl, Shr, Sar, Rol, Ror, Rcl, Rcr, Step, before, steps}
-use Rattle.alu.specs.Shift.{ofLast, carryOnly}
-use Rattle.alu.proofs.StepLaws.{steps-keep}
-use Rattle.alu.proofs.ClosedForms.{from-above, from-below}
+use lib.{Bits.bitAnd, Dec.eqb}
+use Rattle.numbers.specs.Numbers.{bit, isSet, top, topSet}
+use Rattle.numbers.proofs.Masks.{mask-bit, mask-top}
+use Rattle.alu.specs.{Result.ResultC, Step.Shl, Step.Shr, Step.Sar, Step.Rol, Step.Ror, Step.Rcl, Step.Rcr, Step.Step, Step.before, Step.steps, Shift.ofLast, Shift.carryOnly}
+use Rattle.alu.proofs.{StepLaws.steps-keep, ClosedForms.from-above, ClosedForms.from-below}
 use Rattle.alu.proofs.OneBitMore.{above, below, shl-above, rcl-above, rcr-above, shr-below, sar-below, rol-carry, ror-carry}
 
 -- C above the value or below it, as the code masks it

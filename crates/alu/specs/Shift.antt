@@ -1,26 +1,10 @@
 -- The shifts and rotates of n bits: the steps of the full count, with the flags of the last one.
 -- Assumes nothing.
-use mathlib.Core.Bool.{Bool, true, false, xor}
+use mathlib.Core.Bool.{Bool, false, xor}
 use Prim.Native.Nat.{ℕ, zero, suc, _-_}
-use Rattle.flags.specs.Numbers.{isSet, topSet}
+use Rattle.numbers.specs.Numbers.{isSet, topSet}
 use Rattle.alu.specs.Result.{ResultC, ResultCo, ResultCoa}
 use Rattle.alu.specs.Step.{Shift, Shl, Shr, Sar, Rol, Ror, Rcl, Rcr, Step, before, steps}
-
--- SHL, or where it rotates ROL, or RCL where through C
-abbrev pub leftBy : Bool → Bool → Shift
-leftBy false through = Shl
-leftBy true false = Rol
-leftBy true true = Rcl
-
--- ROR, or RCR where through C
-abbrev pub rightBy : Bool → Shift
-rightBy false = Ror
-rightBy true = Rcr
-
--- SHR, or SAR where signed
-abbrev pub downBy : Bool → Shift
-downBy false = Shr
-downBy true = Sar
 
 -- a flag of the last step; a count of 0 makes none, and the flag is false
 abbrev pub ofLast : ℕ → Bool → Bool

@@ -2,7 +2,7 @@
 -- Assumes nothing.
 use mathlib.Core.Bool.{Bool, false}
 use Prim.Native.Nat.{ℕ, zero, suc, _+_, _*_, _/_, _%_, _^_}
-use Rattle.flags.specs.Numbers.{bit, isSet, topSet}
+use Rattle.numbers.specs.Numbers.{bit, isSet, topSet}
 
 -- the seven that differ in how a bit moves and what enters
 pub data Shift : Type 0 where

@@ -4,7 +4,7 @@ use mathlib.Core.Bool.{Bool, false, not}
 use Prim.Native.Nat.{ℕ, _+_, _-_, _%_, _^_}
 use lib.Dec.{leb, ltb}
 use lib.IntN.{pos, _+ℤ_, _-ℤ_}
-use Rattle.flags.specs.Numbers.{bit, signed, fitsSigned}
+use Rattle.numbers.specs.Numbers.{bit, signed, fitsSigned}
 use Rattle.alu.specs.Result.{ResultCoa}
 
 -- a plus b plus the carry taken in

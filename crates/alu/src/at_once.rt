@@ -4,7 +4,7 @@
 ghost use mathlib.Core.Bool.{false};
 ghost use mathlib.Core.Path.{_≡_};
 ghost use Prim.Native.Nat.{min, _+_, _-_, _*_, _/_, _%_, _^_, _≤_, _<_};
-ghost use Rattle.flags.specs.Numbers.{bit, topSet};
+ghost use Rattle.numbers.specs.Numbers.{bit, topSet};
 ghost use Rattle.alu.specs.Step.{Shl, Shr, Sar, Rol, Ror, before, steps};
 
 // The largest number of so many bits.

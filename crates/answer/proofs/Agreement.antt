@@ -1,23 +1,16 @@
 -- What the table's rows say of an op and a mode is said of the operation that they name. Assumes nothing.
-use mathlib.Core.Path.{_≡_, refl}
-use mathlib.Core.Bool.{Bool, true, false, not, _&&_, Bool·beq, false≢true}
-use Prim.Native.Nat.{ℕ, zero, suc, _+_, _^_, _<_}
+use mathlib.Core.{Path._≡_, Path.refl, Bool.Bool, Bool.true, Bool.false, Bool.not, Bool._&&_, Bool.Bool·beq, Bool.false≢true}
+use Prim.Native.Nat.{ℕ, _+_, _^_, _<_}
 use native.Mathlib.Omega.{arith}
 use lib.Dec.{leb, eqb}
 use borrow.Author.Tests.{leb-true, leb-false, lt-ltb, le-leb, lt-leb}
-use Rattle.flags.specs.Numbers.{isSet}
-use Rattle.request.specs.Operation.{ops, listed, checked, operationOf}
-use Rattle.request.specs.Limits.{xMost, yMost}
-use Rattle.request.specs.declared.operation.Operation.{Operation}
+use Rattle.numbers.specs.Numbers.{isSet}
+use Rattle.request.specs.{Operation.ops, Operation.listed, Operation.checked, Operation.operationOf, Limits.xMost, Limits.yMost, declared.operation.Operation.Operation}
 use Rattle.request.specs.declared.operation.Operation.the-variants.{Alu as OfAlu, Multiply as OfMultiply, Divide as OfDivide, Decimal as OfDecimal}
-use Rattle.request.specs.Operation.{Listed}
-use Rattle.request.specs.Operation.{AluOp, Multiply, Divide, DecimalOp, Unlisted}
 use Rattle.request.specs.declared.decode.Decoded.{Decoded}
 use Rattle.request.specs.declared.decode.Decoded.the-variants.{Operation as Names, Unlisted as NotListed, WrongMode as BadMode}
 use Rattle.request.proofs.RequestLaws.{below, at, over, above}
-use Rattle.answer.specs.Charted.{bits}
-use Rattle.answer.specs.Table.{unlisted, wrongMode, widthBy, xBits, yBits}
-use Rattle.answer.proofs.Rows.{both}
+use Rattle.answer.specs.{Charted.bits, Table.unlisted, Table.wrongMode, Table.widthBy, Table.xBits, Table.yBits}
 
 -- a divide has op 11, and the table's width and sign rule; nothing else has op 11
 abbrev pub divides : ℕ → ℕ → Operation → Bool

@@ -1,37 +1,25 @@
 -- The answers over the width n: what the charts' functions made, put into an answer, is what the definitions say of the request.
 -- Assumes nothing.
-use mathlib.Core.Path.{_≡_, refl, sym, ap, ap₂, subst, _∙_}
-use mathlib.Core.Bool.{Bool, true, false, cond}
+use mathlib.Core.{Path._≡_, Path.refl, Path.sym, Path.ap, Path.ap₂, Path._∙_, Bool.Bool, Bool.true, Bool.false, Bool.cond}
 use Prim.Native.Nat.{ℕ, _+_, _*_, _/_, _%_, _≤_, _<_}
-use native.Mathlib.Nat.{mod-eq-of-lt}
-use native.Mathlib.Omega.{arith}
-use Rattle.flags.specs.Word.{flagsOf}
-use Rattle.flags.specs.declared.word.Flags.{Flags}
-use Rattle.multiply.specs.Routines.{Multiplied}
-use Rattle.multiply.specs.Multiply.{multiply}
-use Rattle.divide.specs.Divide.{DivideOutcome, Divided, refused, divide}
-use Rattle.divide.specs.declared.div.Refusal.{Refusal}
+use native.Mathlib.{Nat.mod-eq-of-lt, Omega.arith}
+use Rattle.flags.specs.{Word.flagsOf, declared.word.Flags.Flags}
+use Rattle.multiply.specs.{Routines.Multiplied, Multiply.multiply}
+use Rattle.divide.specs.{Divide.DivideOutcome, Divide.Divided, Divide.refused, Divide.divide, declared.div.Refusal.Refusal}
 use Rattle.bcd.specs.declared.adjust.Adjusted.{Adjusted}
 use Rattle.request.specs.Limits.{largest, dividendMost, rightMost, adjustMost, xMost, yMost, fitsIn, inLimits, InRange}
-use Rattle.request.specs.Operation.{operationOf}
-use Rattle.request.specs.Judge.{requestOf, judgedBy, judged, Admitted, TooLarge}
-use Rattle.request.specs.declared.raw.Raw.{Raw}
-use Rattle.request.specs.declared.operation.Width.{Width}
-use Rattle.request.specs.declared.operation.Width.the-variants.{Byte, Word}
-use Rattle.request.specs.declared.operation.Mode.{Mode}
-use Rattle.request.specs.declared.operation.Alu.{Alu}
+use Rattle.request.specs.{Operation.operationOf, Judge.requestOf, Judge.judgedBy, Judge.judged, Judge.Admitted, Judge.TooLarge, declared.raw.Raw.Raw}
+use Rattle.request.specs.{declared.operation.Width.the-variants.Byte, declared.operation.Width.the-variants.Word, declared.operation.Mode.Mode, declared.operation.Alu.Alu}
 use Rattle.request.specs.declared.operation.Alu.the-variants.{Add, Adc, Sub, Sbb, Neg, Shl, Shr, Sar, Rol, Ror, Rcl, Rcr, ShlAf}
 use Rattle.request.specs.declared.operation.Decimal.{Decimal}
 use Rattle.request.specs.declared.operation.Decimal.the-variants.{Aaa, Aas, Aad, Daa, Das}
 use Rattle.request.specs.declared.operation.Operation.{Operation}
-use Rattle.request.specs.declared.operation.Operation.the-variants.{Alu as OfAlu, Decimal as OfDecimal}
-use Rattle.request.specs.declared.raw.Request.{Request}
+use Rattle.request.specs.{declared.operation.Operation.the-variants.Alu as OfAlu, declared.operation.Operation.the-variants.Decimal as OfDecimal, declared.raw.Request.Request}
 use Rattle.request.specs.declared.decode.Decoded.{Decoded}
 use Rattle.request.specs.declared.decode.Decoded.the-variants.{Operation as Names, Unlisted as NotListed, WrongMode as BadMode}
 use Rattle.request.proofs.RequestLaws.{in-range}
 use Rattle.answer.specs.Charted.{wholeOf, aluOf, ofProduct8, ofProduct16, refusalStatus, ofOutcome, ofDivided, ofAdjusted, adjustOf, multipliedOf, dividedOf, limitedTo, chartedBy, charted, chartedAs}
-use Rattle.answer.specs.Asked.{zeros, ofJudged, asked}
-use Rattle.answer.specs.declared.answer.Answer.{Answer}
+use Rattle.answer.specs.{Asked.zeros, Asked.ofJudged, Asked.asked, declared.answer.Answer.Answer}
 
 -- ---- the ALU
 

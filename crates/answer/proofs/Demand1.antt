@@ -1,35 +1,22 @@
 -- Demand 1: status 6, 8 or 9 exactly for a divide that is admitted and to which its reason applies; it gives the chart's flags and steps,
 -- and no result. Besides: the flags handed in change nothing of a divide. Assumes nothing.
-use mathlib.Core.Path.{_≡_, refl, sym, ap, subst, _∙_}
-use mathlib.Core.Bool.{Bool, true, false, not, cond, _&&_, _||_, false≢true}
+use mathlib.Core.{Path._≡_, Path.refl, Path.sym, Path.ap, Path.subst, Path._∙_, Bool.Bool, Bool.true, Bool.false, Bool.not, Bool.cond, Bool._&&_, Bool._||_, Bool.false≢true}
 use mathlib.Core.Logic.{_↔_}
 use Prim.Native.Nat.{ℕ, _+_, _^_, _<_}
-use lib.Bits.{bitAnd}
-use lib.Dec.{leb, ltb, eqb}
+use lib.{Bits.bitAnd, Dec.leb, Dec.ltb, Dec.eqb}
 use borrow.Author.Tests.{leb-false, ltb-false, eqb-true, not-false}
-use Rattle.flags.specs.Numbers.{isSet}
-use Rattle.flags.specs.Word.{wordOf, flagsOf}
-use Rattle.flags.specs.declared.word.Flags.{Flags}
-use Rattle.divide.specs.Divide.{applies, refusedFlags, refusedSteps, divide}
-use Rattle.divide.specs.declared.div.Refusal.{Refusal}
+use Rattle.numbers.specs.Numbers.{isSet}
+use Rattle.flags.specs.{Word.wordOf, Word.flagsOf, declared.word.Flags.Flags}
+use Rattle.divide.specs.{Divide.applies, Divide.refusedFlags, Divide.refusedSteps, Divide.divide, declared.div.Refusal.Refusal}
 use Rattle.divide.specs.declared.div.Refusal.the-variants.{ZeroDivisor, TooWide, SignRange}
-use Rattle.divide.proofs.Refusals.{refused-whole}
-use Rattle.divide.proofs.RefusedFlags.{flags-not-seen}
-use Rattle.request.specs.Operation.{ops, listed, widthOf, modeOf, operationOf}
-use Rattle.request.specs.Limits.{xMost, yMost}
-use Rattle.request.specs.Judge.{raw, requestOf, judgedBy, judged}
-use Rattle.request.specs.Limits.{inLimits}
-use Rattle.request.specs.Judge.{Admitted, TooLarge}
-use Rattle.request.specs.declared.decode.Decoded.the-variants.{Operation as Names, WrongMode}
-use Rattle.request.specs.declared.operation.Operation.the-variants.{Divide}
-use Rattle.answer.specs.Charted.{bits, refusalStatus, ofDivided, charted}
-use Rattle.answer.specs.Asked.{Raw, ofJudged, asked}
-use Rattle.answer.specs.Table.{wrongMode, widthBy, tooLarge, refusedFor}
-use Rattle.answer.specs.Refused.{RefusedDivide, refusal}
-use Rattle.answer.specs.declared.answer.Answer.{Answer}
-use Rattle.answer.proofs.Rows.{both}
-use Rattle.answer.proofs.DivideRows.{some-width, flags-alone, divide-admitted}
-use Rattle.answer.proofs.Table.{statuses}
+use Rattle.divide.proofs.{Refusals.refused-whole, RefusedFlags.flags-not-seen}
+use Rattle.request.specs.{Operation.ops, Operation.listed, Operation.widthOf, Operation.modeOf, Operation.operationOf, Limits.xMost, Limits.yMost}
+use Rattle.request.specs.{Judge.raw, Judge.requestOf, Judge.judgedBy, Judge.judged, Limits.inLimits, Judge.Admitted, Judge.TooLarge}
+use Rattle.request.specs.{declared.decode.Decoded.the-variants.Operation as Names, declared.decode.Decoded.the-variants.WrongMode, declared.operation.Operation.the-variants.Divide}
+use Rattle.answer.specs.{Charted.bits, Charted.refusalStatus, Charted.ofDivided, Charted.charted, Asked.Raw, Asked.ofJudged, Asked.asked}
+use Rattle.answer.specs.{Table.wrongMode, Table.widthBy, Table.tooLarge, Table.refusedFor, Refused.RefusedDivide, Refused.refusal, declared.answer.Answer.Answer}
+use Rattle.numbers.proofs.BoolLaws.{both}
+use Rattle.answer.proofs.{DivideRows.some-width, DivideRows.flags-alone, DivideRows.divide-admitted, Table.statuses}
 
 -- ---- a refused divide is answered its refusal
 

@@ -1,27 +1,18 @@
 -- A divide's rows of the table, and its answer where none of the first two applies. Assumes nothing.
-use mathlib.Core.Path.{_≡_, refl, _∙_}
-use mathlib.Core.Bool.{Bool, true, false, not, cond, _||_}
-use mathlib.Core.List.{[], _∷_}
-use mathlib.Core.Logic.{inl, inr}
+use mathlib.Core.{Path._≡_, Path.refl, Path._∙_, Bool.Bool, Bool.true, Bool.false, Bool.not, Bool.cond, Bool._||_, List.[], List._∷_, Logic.inl, Logic.inr}
 use Prim.Native.Nat.{ℕ, _+_, _/_, _%_, _^_, _≤_, _<_}
 use native.Mathlib.Omega.{arith}
-use lib.Bits.{bitAnd}
-use lib.Dec.{leb, ltb}
+use lib.{Bits.bitAnd, Dec.leb, Dec.ltb}
 use borrow.Author.Tests.{ltb-false, leb-false, lt-ltb, le-ltb, le-leb, eq-eqb, not-false}
-use Rattle.flags.specs.Numbers.{isSet}
+use Rattle.numbers.specs.{Numbers.isSet, Rows.OneOf}
 use Rattle.flags.specs.Word.{flagsOf, isFlags}
 use Rattle.flags.proofs.WordLaws.{is-masked}
-use Rattle.divide.specs.Divide.{accepts, applies, divide}
-use Rattle.divide.specs.declared.div.Refusal.{Refusal}
+use Rattle.divide.specs.{Divide.accepts, Divide.applies, Divide.divide, declared.div.Refusal.Refusal}
 use Rattle.divide.specs.declared.div.Refusal.the-variants.{ZeroDivisor, TooWide, SignRange}
 use Rattle.divide.proofs.Refusals.{three-cover}
-use Rattle.request.specs.Operation.{ops, listed, widthOf, modeOf, operationOf}
-use Rattle.request.specs.Judge.{judged}
-use Rattle.request.specs.Limits.{inLimits}
+use Rattle.request.specs.{Operation.ops, Operation.listed, Operation.widthOf, Operation.modeOf, Operation.operationOf, Judge.judged, Limits.inLimits}
 use Rattle.request.specs.declared.operation.Operation.the-variants.{Divide}
-use Rattle.answer.specs.Charted.{bits, ofDivided, charted}
-use Rattle.answer.specs.Asked.{raw, asked, statusOf}
-use Rattle.answer.specs.Table.{OneOf, widthBy}
+use Rattle.answer.specs.{Charted.bits, Charted.ofDivided, Charted.charted, Asked.raw, Asked.asked, Asked.statusOf, Table.widthBy}
 use Rattle.answer.proofs.Table.{byReason, by-table}
 
 -- an operand that has too many bits for the mode's width

@@ -1,7 +1,6 @@
 pub mod AnswerLaws
 pub mod Width
 pub mod Words
-pub mod Rows
 pub mod Agreement
 pub mod Table
 pub mod DivideRows

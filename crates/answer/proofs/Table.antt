@@ -1,40 +1,30 @@
 -- The status of a raw request is that of the first row of the table that applies. Assumes nothing.
 use mathlib.Core.Path.{_≡_, refl, sym, ap, subst, _∙_}
-use mathlib.Core.Bool.{Bool, true, false, not, cond, _&&_, _||_, Bool·beq, false≢true}
-use mathlib.Core.List.{[], _∷_}
-use mathlib.Core.Logic.{_↔_}
+use mathlib.Core.{Bool.Bool, Bool.true, Bool.false, Bool.not, Bool.cond, Bool._&&_, Bool._||_, Bool.Bool·beq, Bool.false≢true, List.[], List._∷_, Logic._↔_}
 use Prim.Native.Nat.{ℕ, _+_, _^_, _≤_, _<_}
 use native.Mathlib.Omega.{arith}
 use lib.Dec.{leb, eqb}
 use borrow.Author.Tests.{leb-true, leb-false, eqb-true, le-leb, lt-leb, not-true}
-use Rattle.flags.specs.Numbers.{isSet}
-use Rattle.flags.specs.Word.{flagsOf}
-use Rattle.flags.specs.declared.word.Flags.{Flags}
+use Rattle.numbers.specs.{Numbers.isSet, Rows.Given, Rows.OneOf}
+use Rattle.flags.specs.{Word.flagsOf, declared.word.Flags.Flags}
 use Rattle.flags.proofs.WordLaws.{is-masked}
 use Rattle.divide.specs.Divide.{DivideOutcome, accepted, refused, applies, resultsOf, divide}
 use Rattle.divide.specs.declared.div.Refusal.the-variants.{ZeroDivisor, TooWide, SignRange}
 use Rattle.divide.proofs.Refusals.{by-reason}
-use Rattle.request.specs.Operation.{operationOf}
-use Rattle.request.specs.Limits.{xMost, yMost}
-use Rattle.request.specs.Judge.{requestOf, judgedBy, judged}
-use Rattle.request.specs.Limits.{inLimits}
-use Rattle.request.specs.declared.operation.Width.{Width}
-use Rattle.request.specs.declared.operation.Width.the-variants.{Byte, Word}
-use Rattle.request.specs.declared.operation.Alu.{Alu}
-use Rattle.request.specs.declared.operation.Alu.the-variants as Alus
+use Rattle.request.specs.{Operation.operationOf, Limits.xMost, Limits.yMost, Judge.requestOf, Judge.judgedBy, Judge.judged, Limits.inLimits, declared.operation.Width.Width}
+use Rattle.request.specs.{declared.operation.Width.the-variants.Byte, declared.operation.Width.the-variants.Word, declared.operation.Alu.Alu}
 use Rattle.request.specs.declared.operation.Operation.{Operation}
 use Rattle.request.specs.declared.operation.Operation.the-variants.{Alu as OfAlu, Multiply as OfMultiply, Divide as OfDivide, Decimal as OfDecimal}
 use Rattle.request.specs.declared.decode.Decoded.{Decoded}
 use Rattle.request.specs.declared.decode.Decoded.the-variants.{Operation as Names, Unlisted as NotListed, WrongMode as BadMode}
-use Rattle.request.specs.Judge.{Judged}
-use Rattle.request.specs.Judge.{Admitted, Unlisted, WrongMode, TooLarge}
-use Rattle.multiply.specs.Routines.{Multiplied}
-use Rattle.multiply.specs.Multiply.{multiply}
+use Rattle.request.specs.{Judge.Judged, Judge.Admitted, Judge.Unlisted, Judge.WrongMode, Judge.TooLarge}
+use Rattle.request.specs.declared.operation.Alu.the-variants as Alus
+use Rattle.multiply.specs.{Routines.Multiplied, Multiply.multiply}
 use Rattle.answer.specs.Charted.{bits, aluOf, multipliedBy, ofOutcome, ofDivided, chartedBy, charted}
 use Rattle.answer.specs.Asked.{Raw, zeros, ofJudged, asked}
-use Rattle.answer.specs.Table.{Given, unlisted, wrongMode, widthBy, xBits, yBits, tooLarge, refusedFor, rows, OneOf}
+use Rattle.answer.specs.Table.{unlisted, wrongMode, widthBy, xBits, yBits, tooLarge, refusedFor, rows}
 use Rattle.answer.proofs.Agreement.{divides, agrees, agreed}
-use Rattle.answer.proofs.Rows.{both, firstOf, first-given, first-one-of}
+use Rattle.numbers.proofs.{BoolLaws.both, RowLaws.firstOf, RowLaws.first-given, RowLaws.first-one-of}
 
 -- ---- the limits
 

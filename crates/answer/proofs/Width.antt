@@ -1,14 +1,11 @@
 -- The digits of R and S above the width are 0. Assumes nothing.
-use mathlib.Core.Path.{_≡_, refl}
-use mathlib.Core.Bool.{Bool, true, false}
+use mathlib.Core.{Path._≡_, Path.refl, Bool.Bool, Bool.true, Bool.false}
 use Prim.Native.Nat.{ℕ, _+_, _-_, _^_, _<_}
 use native.Mathlib.Nat.{mod-lt}
 use lib.Pow.{pow-pos}
-use Rattle.flags.specs.Numbers.{bit}
+use Rattle.numbers.specs.Numbers.{bit}
 use Rattle.flags.specs.declared.word.Flags.{Flags}
-use Rattle.alu.specs.Step.{Shl, Shr, Sar, Rol, Ror, Rcl, Rcr, before}
-use Rattle.alu.specs.Shift.{leftward, rightward, downward}
-use Rattle.alu.specs.Sum.{adc, sbb}
+use Rattle.alu.specs.{Step.Shl, Step.Shr, Step.Sar, Step.Rol, Step.Ror, Step.Rcl, Step.Rcr, Step.before, Shift.leftward, Shift.rightward, Shift.downward, Sum.adc, Sum.sbb}
 use Rattle.alu.proofs.StepLaws.{steps-keep}
 use Rattle.multiply.proofs.CarryLaws.{wrapped-lt}
 use Rattle.divide.specs.Divide.{accepts, quotientOf, remainderOf, quotientReturned, divide}

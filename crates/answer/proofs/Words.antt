@@ -1,40 +1,28 @@
 -- Every field of an answer fits the digits that it is written in: the flags are flags, and steps, R and S have 16 bits. Assumes nothing.
-use mathlib.Core.Path.{_≡_, refl}
-use mathlib.Core.Bool.{Bool, true, false, cond}
+use mathlib.Core.{Path._≡_, Path.refl, Bool.Bool, Bool.true, Bool.false, Bool.cond}
 use Prim.Native.Nat.{ℕ, _+_, _-_, _%_, _^_, _≤_, _<_}
 use native.Mathlib.Omega.{arith}
-use lib.Count.{ones-le}
-use lib.Dec.{eqb}
-use Rattle.flags.specs.Numbers.{top, topSet, magnitude}
-use Rattle.flags.specs.Word.{wordOf, flagsOf, isFlags}
-use Rattle.flags.specs.declared.word.Flags.{Flags}
-use Rattle.flags.proofs.SignLaws.{plain-lt, magnitude-plain}
+use lib.{Count.ones-le, Dec.eqb}
+use Rattle.numbers.specs.Numbers.{top, topSet, magnitude}
+use Rattle.flags.specs.{Word.wordOf, Word.flagsOf, Word.isFlags, declared.word.Flags.Flags}
+use Rattle.numbers.proofs.SignLaws.{plain-lt, magnitude-plain}
 use Rattle.flags.proofs.WordLaws.{together-within, within-flags}
-use Rattle.multiply.specs.Routines.{Multiplied}
-use Rattle.multiply.specs.Multiply.{productValue, carries, negates, mulSteps, multiply}
+use Rattle.multiply.specs.{Routines.Multiplied, Multiply.productValue, Multiply.carries, Multiply.negates, Multiply.mulSteps, Multiply.multiply}
 use Rattle.multiply.proofs.CarryLaws.{wrapped-lt}
 use Rattle.divide.specs.Divide.{DivideOutcome, accepted, refused, divide}
 use Rattle.divide.proofs.Logged.{most-steps}
-use Rattle.bcd.specs.Adjust.{ahOf, alOf, adjusts}
-use Rattle.bcd.specs.Ascii.{ascii, aaaO, aaaS, aaaOf, aasO, aasS, aasOf, aadOf}
+use Rattle.bcd.specs.{Adjust.ahOf, Adjust.alOf, Adjust.adjusts, Ascii.ascii, Ascii.aaaO, Ascii.aaaS, Ascii.aaaOf, Ascii.aasO, Ascii.aasS, Ascii.aasOf, Ascii.aadOf}
 use Rattle.bcd.specs.Decimal.{decimal, daaOf, dasOf}
-use Rattle.request.specs.Judge.{judged}
-use Rattle.request.specs.Limits.{largest, dividendMost, adjustMost}
-use Rattle.request.specs.declared.operation.Width.{Width}
-use Rattle.request.specs.declared.operation.Width.the-variants.{Byte, Word}
-use Rattle.request.specs.declared.operation.Alu.{Alu}
-use Rattle.request.specs.declared.operation.Alu.the-variants as Ops
-use Rattle.request.specs.declared.operation.Decimal.{Decimal}
+use Rattle.request.specs.{Judge.judged, Limits.largest, Limits.dividendMost, Limits.adjustMost, declared.operation.Width.Width}
+use Rattle.request.specs.{declared.operation.Width.the-variants.Byte, declared.operation.Width.the-variants.Word, declared.operation.Alu.Alu, declared.operation.Decimal.Decimal}
 use Rattle.request.specs.declared.operation.Decimal.the-variants.{Aaa, Aas, Aad, Daa, Das}
 use Rattle.request.specs.declared.operation.Operation.{Operation}
 use Rattle.request.specs.declared.operation.Operation.the-variants.{Alu as OfAlu, Multiply as OfMultiply, Divide as OfDivide, Decimal as OfDecimal}
-use Rattle.request.specs.Judge.{Judged}
-use Rattle.request.specs.Judge.{Admitted, Unlisted, WrongMode, TooLarge}
-use Rattle.request.specs.Limits.{InRange}
+use Rattle.request.specs.{Judge.Judged, Judge.Admitted, Judge.Unlisted, Judge.WrongMode, Judge.TooLarge, Limits.InRange}
+use Rattle.request.specs.declared.operation.Alu.the-variants as Ops
 use Rattle.request.proofs.RequestLaws.{admitted-in-range}
 use Rattle.answer.specs.Charted.{plainOf, aluOf, bits, ofOutcome, ofAdjusted, adjustOf, multipliedBy, chartedBy, charted}
-use Rattle.answer.specs.Asked.{Raw, zeros, ofJudged, asked}
-use Rattle.answer.specs.declared.answer.Answer.{Answer}
+use Rattle.answer.specs.{Asked.Raw, Asked.zeros, Asked.ofJudged, Asked.asked, declared.answer.Answer.Answer}
 use Rattle.answer.proofs.Width.{alu-fits, divided-fits}
 
 -- what is held of each answer

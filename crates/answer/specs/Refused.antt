@@ -3,7 +3,7 @@ use mathlib.Core.Path.{_≡_}
 use mathlib.Core.Bool.{true}
 use Prim.Native.Nat.{_+_, _^_, _≤_, _<_}
 use lib.Bits.{bitAnd}
-use Rattle.flags.specs.Numbers.{isSet}
+use Rattle.numbers.specs.Numbers.{isSet}
 use Rattle.flags.specs.Word.{wordOf, flagsOf}
 use Rattle.divide.specs.Divide.{applies, refusedFlags, refusedSteps}
 pub use Rattle.divide.specs.declared.div.Refusal.{Refusal}

@@ -1,21 +1,14 @@
 -- The table of statuses from 3 on, row by row in its order, over the numbers of a raw request. Assumes nothing.
-use mathlib.Core.Path.{_≡_}
-use mathlib.Core.Bool.{Bool, true, false, not, cond, _&&_, _||_}
+use mathlib.Core.Bool.{Bool, true, not, cond, _&&_, _||_}
 use mathlib.Core.List.{List, [], _∷_}
-use mathlib.Core.Logic.{_⊎_}
 use Prim.Native.Nat.{ℕ, _+_, _^_}
 use lib.Bits.{bitAnd}
 use lib.Dec.{leb, ltb, eqb}
-use Rattle.flags.specs.Numbers.{between, isSet}
+use Rattle.numbers.specs.Numbers.{between, isSet}
 use Rattle.divide.specs.Divide.{applies}
 use Rattle.divide.specs.declared.div.Refusal.{Refusal}
 use Rattle.divide.specs.declared.div.Refusal.the-variants.{ZeroDivisor, TooWide, SignRange}
 use Rattle.answer.specs.Asked.{Raw}
-
--- a row is a status and whether it applies. Status k is given: k's row applies and none before it does; 0 where none applies
-abbrev pub Given : ℕ → List (ℕ × Bool) → Type 0
-Given k [] = k ≡ 0
-Given k (row ∷ rows) = cond (eqb k (row .0)) (row .1 ≡ true) ((row .1 ≡ false) × Given k rows)
 
 -- 10 and 11: multiply and divide
 abbrev pub isMulDiv : ℕ → Bool
@@ -64,8 +57,3 @@ rows r =
     ∷ (8, refusedFor TooWide r)
     ∷ (9, refusedFor SignRange r)
     ∷ []
-
--- one of the numbers listed
-abbrev pub OneOf : ℕ → List ℕ → Type 0
-OneOf k [] = ⊥
-OneOf k (j ∷ js) = (k ≡ j) ⊎ OneOf k js

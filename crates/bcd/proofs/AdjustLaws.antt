@@ -1,19 +1,14 @@
 -- The adjusts by value, from what the code calls: AAA and AAS by one law, DAA and DAS by another, and AAD. What a call gave is a name with an
 -- equation, so that no law sees how the code is written.
 -- Assumes nothing.
-use mathlib.Core.Path.{_≡_, refl, sym, ap, _∙_}
-use mathlib.Core.Bool.{Bool, true, false, cond}
+use mathlib.Core.{Path._≡_, Path.refl, Path.sym, Path.ap, Path._∙_, Bool.Bool, Bool.true, Bool.false, Bool.cond}
 use Prim.Native.Nat.{ℕ, _+_, _-_, _*_, _%_, _≤_, _<_}
 use native.Mathlib.Omega.{arith}
 use lib.Count.{ones, ones-le}
-use Rattle.flags.specs.Numbers.{bit}
-use Rattle.flags.specs.Szp.{szp}
-use Rattle.flags.specs.Word.{setCOA}
-use Rattle.flags.specs.declared.word.Flags.{Flags}
-use Rattle.multiply.specs.Corx.{Halves, corx}
-use Rattle.bcd.specs.Adjust.{ahOf, alOf, adjusts}
-use Rattle.bcd.specs.Ascii.{ascii, aadOf}
-use Rattle.bcd.specs.Decimal.{highAdjusts, distance, decimal, named}
+use Rattle.numbers.specs.Numbers.{bit}
+use Rattle.flags.specs.{Szp.szp, Word.setCOA, declared.word.Flags.Flags}
+use Rattle.corx.specs.Corx.{Halves, corx}
+use Rattle.bcd.specs.{Adjust.ahOf, Adjust.alOf, Adjust.adjusts, Ascii.ascii, Ascii.aadOf, Decimal.highAdjusts, Decimal.distance, Decimal.decimal, Decimal.named}
 use Rattle.bcd.specs.declared.adjust.Adjusted.{Adjusted}
 
 -- a step less where it was adjusted

@@ -4,7 +4,7 @@ use Prim.Native.Nat.{ℕ, _+_, _-_, _*_, _%_}
 use lib.Count.{ones}
 use lib.Dec.{leb, eqb}
 use Rattle.flags.specs.Parity.{evenOnes}
-use Rattle.flags.specs.Numbers.{between}
+use Rattle.numbers.specs.Numbers.{between}
 use Rattle.flags.specs.Szp.{szp}
 use Rattle.flags.specs.declared.word.Flags.{Flags}
 use Rattle.bcd.specs.Adjust.{ahOf, alOf, adjusts}

@@ -3,7 +3,7 @@ use mathlib.Core.Bool.{Bool, cond, _||_}
 use Prim.Native.Nat.{ℕ, _+_, _-_, _*_, _%_}
 use lib.Dec.{ltb}
 use Rattle.flags.specs.Word.{setCOA}
-use Rattle.flags.specs.Numbers.{between}
+use Rattle.numbers.specs.Numbers.{between}
 use Rattle.flags.specs.Szp.{szp}
 use Rattle.flags.specs.declared.word.Flags.{Flags}
 use Rattle.bcd.specs.Adjust.{ahOf, alOf, adjusts}

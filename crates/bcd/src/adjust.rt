@@ -1,7 +1,7 @@
 // What the adjusts share: the halves of AX, the test of the low digit, and the answer.
 // Tests are joined by `&` and `|`, which look at both sides: no branch, and one way through.
 ghost use mathlib.Core.Path.{_≡_};
-ghost use Rattle.flags.specs.Numbers.{between};
+ghost use Rattle.numbers.specs.Numbers.{between};
 ghost use Rattle.bcd.specs.Adjust.{ahOf, alOf, adjusts};
 use flags::word::Flags;
 

@@ -1,13 +1,12 @@
 // AAA, AAS and AAD.
 ghost use mathlib.Core.Path.{_≡_};
 ghost use Rattle.flags.specs.Parity.{ParityTable};
-ghost use Rattle.bcd.specs.Ascii.{ascii, aaaO, aaaS, aasO, aasS, aaaOf, aasOf, aadOf};
+ghost use Rattle.bcd.specs.Ascii.{ascii, aasO, aasS, aaaOf, aasOf, aadOf};
 use crate::adjust;
 use crate::adjust::Adjusted;
 use flags::parity;
 use flags::width::Width8;
 use flags::word::Flags;
-use multiply::corx;
 
 // AL is cut to its low digit; the chip takes Z and P from AL before it is.
 fn cut(

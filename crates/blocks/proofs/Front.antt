@@ -1,10 +1,8 @@
 -- What stands at the front of the buffer when bytes were moved there. Assumes nothing.
-use mathlib.Core.Path.{_≡_, sym, ap, _∙_}
-use mathlib.Core.List.{List, _++_}
+use mathlib.Core.{Path._≡_, Path.sym, Path.ap, Path._∙_, List.List, List._++_}
 use Prim.Native.Nat.{ℕ, _+_, _-_, _≤_}
 use native.Mathlib.Omega.{arith}
-use lib.ListN.{length, take, drop, length-drop}
-use lib.Seq.{length-take-le, take-at, drop-at, take-add}
+use lib.{ListN.length, ListN.take, ListN.drop, ListN.length-drop, Seq.length-take-le, Seq.take-at, Seq.drop-at, Seq.take-add}
 
 -- of the first `to` bytes those from `from` on
 pub at-front : (buffer moved : List ℕ) (from to : ℕ) → from ≤ to → to ≤ length buffer → moved ≡ take (to - from) (drop from buffer) ++ drop (to - from) buffer

@@ -1,11 +1,8 @@
 -- Moving bytes to the front of the buffer, one at a time: the bytes still to be moved are not yet written over.
 -- Assumes nothing.
-use mathlib.Core.Path.{_≡_}
-use mathlib.Core.List.{List, _++_}
+use mathlib.Core.{Path._≡_, List.List, List._++_}
 use Prim.Native.Nat.{ℕ, suc, _+_, _<_}
-use native.Mathlib.Nat.{add-comm}
-use native.Mathlib.Numerals.{add-one}
-use native.Mathlib.Omega.{arith}
+use native.Mathlib.{Nat.add-comm, Numerals.add-one, Omega.arith}
 use lib.ListN.{length, getD, set, take, drop, length-drop}
 use lib.Seq.{length-take-le, getD-append-add, getD-drop, drop-cons, set-at, take-suc, append-snoc}
 

@@ -1,16 +1,12 @@
 -- CORD over the width n: its rounds give the quotient and the remainder, and the chart's count of ones and last compare.
 -- Assumes nothing.
-use mathlib.Core.Path.{_≡_, refl, sym, ap, ap₂, _∙_}
-use mathlib.Core.Bool.{Bool, true, false}
+use mathlib.Core.{Path._≡_, Path.refl, Path.sym, Path.ap, Path.ap₂, Path._∙_, Bool.Bool, Bool.true, Bool.false}
 use Prim.Native.Nat.{ℕ, zero, suc, _+_, _-_, _*_, _/_, _%_, _^_, _≤_, _<_}
-use native.Mathlib.Nat.{pow-suc, div-add-mod', mod-lt, mod-eq-of-lt, div-eq-of-lt, div-lt-iff-lt-mul, le-div-iff-mul-le}
-use native.Mathlib.Omega.{arith}
-use lib.Arith.{digits-lt, digits-div, digits-mod, lt-one}
-use lib.Dec.{leb, ltb}
-use lib.Pow.{pow-add, pow-pos}
+use native.Mathlib.{Nat.pow-suc, Nat.div-add-mod', Nat.mod-lt, Nat.mod-eq-of-lt, Nat.div-eq-of-lt, Nat.div-lt-iff-lt-mul, Nat.le-div-iff-mul-le, Omega.arith}
+use lib.{Arith.digits-lt, Arith.digits-div, Arith.digits-mod, Arith.lt-one, Dec.leb, Dec.ltb, Pow.pow-add, Pow.pow-pos}
 use borrow.Author.Tests.{leb-true, leb-false, le-leb, lt-leb}
-use Rattle.flags.specs.Numbers.{top}
-use Rattle.flags.proofs.Powers.{top-twice}
+use Rattle.numbers.specs.Numbers.{top}
+use Rattle.numbers.proofs.Powers.{top-twice}
 use Rattle.cord.specs.Round.{Round, high, low, byRoad, cordRound}
 use Rattle.cord.specs.Cord.{CordAnswer, accepted, refused, shifted, Road, shiftedOut, noBorrow, borrow as borrows, roadBy, road, tally, byShiftedOut, shiftedOuts, byNoBorrow, noBorrows, bothRoads, noRoads, lastBy, lastCompare, cordSteps, cord}
 

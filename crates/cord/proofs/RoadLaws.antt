@@ -1,12 +1,9 @@
 -- The roads of CORD's rounds over the width n: which are never taken, how many ones come by them, and how the steps add up road by road.
 -- Assumes nothing.
-use mathlib.Core.Path.{_≡_, refl, sym, ap, _∙_}
-use mathlib.Core.Bool.{Bool, true, false, cond, true≢false}
+use mathlib.Core.{Path._≡_, Path.refl, Path.sym, Path.ap, Path._∙_, Bool.Bool, Bool.true, Bool.false, Bool.cond, Bool.true≢false}
 use Prim.Native.Nat.{ℕ, zero, suc, _+_, _-_, _*_, _/_, _%_, _^_, _≤_, _<_}
-use native.Mathlib.Nat.{add-zero, pow-suc, div-add-mod', div-eq-of-lt, mod-lt, div-div-eq-div-mul, mul-comm}
-use native.Mathlib.Omega.{arith}
-use lib.Count.{ones, ones-cat}
-use lib.Dec.{leb, eqb, lit<}
+use native.Mathlib.{Nat.add-zero, Nat.pow-suc, Nat.div-add-mod', Nat.div-eq-of-lt, Nat.mod-lt, Nat.div-div-eq-div-mul, Nat.mul-comm, Omega.arith}
+use lib.{Count.ones, Count.ones-cat, Dec.leb, Dec.eqb, Dec.lit<}
 use borrow.Author.Tests.{leb-true, leb-false, lt-leb}
 use Rattle.cord.specs.Cord.{Results, CordOutcome, accepted, refused, cord, shifted, Road, shiftedOut, noBorrow, borrow as borrows, roadBy, road, tally, byShiftedOut, shiftedOuts, byNoBorrow, noBorrows, cordSteps}
 use Rattle.cord.specs.ByRoad.{roadSteps, walkSteps, stepsByRoad}

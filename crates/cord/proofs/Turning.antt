@@ -1,13 +1,10 @@
 -- CORD's loop over the width n: what holds at its head, and what a turn makes of it. Assumes nothing.
-use mathlib.Core.Path.{_≡_, subst}
-use mathlib.Core.Bool.{Bool}
+use mathlib.Core.{Path._≡_, Path.subst, Bool.Bool}
 use Prim.Native.Nat.{ℕ, suc, _+_, _*_, _%_, _^_, _≤_, _<_}
 use native.Mathlib.Omega.{arith}
-use lib.Arith.{digits-div, digits-mod}
-use lib.Dec.{ltb}
-use Rattle.flags.specs.Numbers.{top}
-use Rattle.cord.specs.Round.{Round, cordRound}
-use Rattle.cord.specs.Cord.{cord}
+use lib.{Arith.digits-div, Arith.digits-mod, Dec.ltb}
+use Rattle.numbers.specs.Numbers.{top}
+use Rattle.cord.specs.{Round.Round, Round.cordRound, Cord.cord}
 use Rattle.cord.proofs.CordLaws.{halved, Walked, begin, next, compared-lt, ready, answerOf, cord-accepts}
 
 -- so many rounds are made and so many left, of operands that passed the first compare

@@ -3,7 +3,7 @@
 use mathlib.Core.Bool.{Bool, true, false, cond}
 use Prim.Native.Nat.{ℕ, zero, suc, _+_, _*_, _/_, _%_, _^_}
 use lib.Dec.{leb, ltb}
-use Rattle.flags.specs.Numbers.{top}
+use Rattle.numbers.specs.Numbers.{top}
 
 -- what an accepted divide gives
 pub record Results : Type 0 where

@@ -1,6 +1,5 @@
 -- A signed divide over the width n once PREIDIV has answered: what CORD has to answer then, and what the rest makes of it. Assumes nothing.
-use mathlib.Core.Path.{_≡_}
-use mathlib.Core.Bool.{Bool, true}
+use mathlib.Core.{Path._≡_, Bool.Bool, Bool.true}
 use Prim.Native.Nat.{ℕ, _+_, _*_, _/_, _%_, _^_, _≤_, _<_}
 use native.Mathlib.Omega.{arith}
 use Rattle.flags.specs.declared.word.Flags.{Flags}
@@ -8,9 +7,7 @@ use Rattle.negate.specs.Negate.{Negate}
 use Rattle.cord.specs.Cord as Cord
 use Rattle.cord.specs.Cord.{Results, CordAnswer, noRoads, cord}
 use Rattle.idiv.specs.Idiv.{PostAnswer, preIdiv, postIdiv}
-use Rattle.divide.specs.Flags.{compareFlags}
-use Rattle.divide.specs.Divide.{refused, dividendOf, divisorOf, preSteps, divide}
-use Rattle.divide.specs.Finish.{firstRefusal, finished}
+use Rattle.divide.specs.{Flags.compareFlags, Divide.refused, Divide.dividendOf, Divide.divisorOf, Divide.preSteps, Divide.divide, Finish.firstRefusal, Finish.finished}
 use Rattle.divide.specs.declared.div.Refusal.{Refusal}
 use Rattle.divide.proofs.DivLaws.{few-steps, pre-divisor, pre-flag, pre-few, pre-most, cord-of-pre, signed-refused, signed-finished}
 

@@ -1,19 +1,16 @@
 -- The manual on what a divide answers: n bits, read as a number that is signed or not. Assumes nothing.
 use mathlib.Core.Path.{_≡_, refl, sym, ap, _∙_}
 use mathlib.Core.Bool.{Bool, true, false, not, cond, _&&_, _||_, true≢false, false≢true, and-eq-true-iff}
-use Prim.Native.Nat.{ℕ, _+_, _-_, _/_, _%_, _^_, _<_}
-use native.Mathlib.Nat.{mod-lt}
-use native.Mathlib.Omega.{arith}
-use lib.Dec.{ltb, eqb}
-use lib.IntN.{ℤ, pos, negsuc, natAbs}
-use lib.Pow.{pow-pos}
+use Prim.Native.Nat.{ℕ, _+_, _-_, _%_, _^_, _<_}
+use native.Mathlib.{Nat.mod-lt, Omega.arith}
+use lib.{Dec.eqb, IntN.ℤ, IntN.pos, IntN.negsuc, IntN.natAbs, Pow.pow-pos}
 use borrow.Author.Tests.{ltb-true, lt-ltb, lt-leb, eqb-false, ne-eqb, not-true}
-use Rattle.flags.specs.Numbers.{top, topSet, signed, valued, magnitude, wrapped}
+use Rattle.numbers.specs.Numbers.{top, topSet, signed, valued, magnitude, wrapped}
 use Rattle.flags.specs.declared.word.Flags.{Flags}
-use Rattle.flags.proofs.SignLaws.{magnitude-plain, plain-lt, signed-wrapped, wrapped-sign}
+use Rattle.numbers.proofs.SignLaws.{magnitude-plain, plain-lt, signed-wrapped, wrapped-sign}
 use Rattle.divide.specs.Divide.{accepted, accepts, quotientOf, remainderOf, quotientReturned, divide}
-use Rattle.cord.specs.Cord.{Results}
 use Rattle.divide.specs.Manual.{Division, inRange, isRefused}
+use Rattle.cord.specs.Cord.{Results}
 use Rattle.divide.proofs.Manual.{quotient-determined, division-holds, range-signed, range-unsigned, manual-accepts}
 
 -- a divide is refused exactly if it is not accepted, whatever the flags, REP or not

@@ -1,14 +1,12 @@
 -- The borders between the reasons to refuse a divide: a quotient's magnitude is too wide, in sign range, or neither. Each law takes the
 -- border from its definition and judges it by arithmetic. Assumes nothing.
-use mathlib.Core.Path.{_≡_, refl, sym, _∙_}
-use mathlib.Core.Bool.{Bool, true, false, not, _||_, and-false, true≢false}
+use mathlib.Core.{Path._≡_, Path.refl, Path.sym, Path._∙_, Bool.Bool, Bool.true, Bool.false, Bool.not, Bool._||_, Bool.and-false, Bool.true≢false}
 use Prim.Native.Nat.{ℕ, _^_, _≤_, _<_}
 use native.Mathlib.Omega.{arith}
-use lib.Dec.{leb, ltb}
-use lib.Pow.{pow-pos}
+use lib.{Dec.leb, Dec.ltb, Pow.pow-pos}
 use borrow.Author.Tests.{leb-true, leb-false, ltb-true, ltb-false, le-leb, lt-leb}
-use Rattle.flags.specs.Numbers.{between, top}
-use Rattle.flags.proofs.Powers.{top-twice}
+use Rattle.numbers.specs.Numbers.{between, top}
+use Rattle.numbers.proofs.Powers.{top-twice}
 use Rattle.divide.specs.Divide.{tooWide, signRange}
 
 -- too wide is at least 2 ^ n

@@ -4,16 +4,13 @@
 -- divisor and the remainder, so whoever reads the log of such a divide may learn of more than the quotient: 00FF / FF and 0100 / C8 both have the
 -- quotient 1, and take 80 and 79 steps (M7 and M8). No bit is shifted out where the divisor is at most 2 ^ (n - 1); then the log tells of the
 -- quotient alone. Assumes nothing.
-use mathlib.Core.Path.{_≡_, ap, sym, _∙_}
-use mathlib.Core.Bool.{Bool, true, false}
-use mathlib.Core.Logic.{_↔_}
+use mathlib.Core.{Path._≡_, Path.ap, Path.sym, Path._∙_, Bool.Bool, Bool.true, Bool.false, Logic._↔_}
 use Prim.Native.Nat.{ℕ, _+_, _-_, _*_, _^_, _≤_, _<_}
 use native.Mathlib.Omega.{arith}
 use lib.IntN.{ℤ, natAbs}
 use Rattle.flags.specs.declared.word.Flags.{Flags}
-use Rattle.flags.proofs.Powers.{top-twice}
-use Rattle.divide.specs.Divide.{accepts, quotientOf, divide}
-use Rattle.divide.specs.StepLog.{logged}
+use Rattle.numbers.proofs.Powers.{top-twice}
+use Rattle.divide.specs.{Divide.accepts, Divide.quotientOf, Divide.divide, StepLog.logged}
 use Rattle.divide.proofs.RoadsOfDivides.{steps-and-shifted-out, none-shifted-out}
 
 -- two accepted unsigned divides of one width, REP and flags either way on each, with equal quotients

@@ -8,15 +8,12 @@
 -- knows the quotient, how many of its ones came by a bit shifted out, which depends on divisor and remainder; so it then can tell of more than
 -- the shelf.
 -- Assumes nothing.
-use mathlib.Core.Path.{_≡_, ap, ap₂}
-use mathlib.Core.Bool.{Bool, true, cond}
-use mathlib.Core.Logic.{_↔_}
-use Prim.Native.Nat.{ℕ, _+_, _*_, _%_, _^_, _<_}
+use mathlib.Core.{Path._≡_, Path.ap, Path.ap₂, Bool.Bool, Bool.true, Bool.cond, Logic._↔_}
+use Prim.Native.Nat.{ℕ, _+_, _*_, _^_, _<_}
 use native.Mathlib.Omega.{arith}
-use Rattle.flags.specs.Numbers.{topSet}
+use Rattle.numbers.specs.Numbers.{topSet}
 use Rattle.flags.specs.declared.word.Flags.{Flags}
-use Rattle.divide.specs.Divide.{accepts, preSteps, divide}
-use Rattle.divide.specs.StepLog.{shelfMagnitude, logged}
+use Rattle.divide.specs.{Divide.accepts, Divide.preSteps, Divide.divide, StepLog.shelfMagnitude, StepLog.logged}
 use Rattle.divide.proofs.Logged.{steps-logged}
 
 -- two accepted signed divides of one width, REP and flags either way on each, with dividends of equal sign and divisors of equal sign

@@ -4,18 +4,13 @@ use mathlib.Core.Path.{_≡_, refl, sym, ap, ap₂, subst, _∙_}
 use mathlib.Core.Bool.{Bool, true, false, not, cond, xor, _&&_, _||_, false≢true, true≢false}
 use mathlib.Core.Logic.{_⊎_, inl, inr, ⊎-elim}
 use Prim.Native.Nat.{ℕ, zero, suc, _+_, _-_, _*_, _/_, _%_, _^_, _≤_, _<_}
-use native.Mathlib.Nat.{mod-lt, mod-eq-of-lt, div-lt-iff-lt-mul, div-add-mod', mul-comm}
-use native.Mathlib.Omega.{arith}
-use lib.Dec.{leb, ltb, eqb}
-use lib.IntN.{ℤ, negℤ, natAbs}
-use lib.Pow.{pow-pos}
-use lib.Signed.{quotZ, remZ}
+use native.Mathlib.{Nat.mod-lt, Nat.mod-eq-of-lt, Nat.div-lt-iff-lt-mul, Nat.div-add-mod', Nat.mul-comm, Omega.arith}
+use lib.{Dec.leb, Dec.ltb, Dec.eqb, IntN.ℤ, IntN.negℤ, IntN.natAbs, Pow.pow-pos, Signed.quotZ, Signed.remZ}
 use borrow.Author.Tests.{leb-true, leb-false, ltb-true, le-leb, lt-leb, lt-ltb, le-ltb, eq-eqb, ne-eqb}
-use Rattle.flags.specs.Numbers.{top, topSet, signed, magnitude, wrapped}
-use Rattle.flags.specs.Word.{setCO}
-use Rattle.flags.specs.declared.word.Flags.{Flags}
-use Rattle.flags.proofs.Powers.{top-twice}
-use Rattle.flags.proofs.SignLaws.{signOf, plain, signed-by, abs-sign, quot-sign, rem-sign, wrapped-sign, plain-lt, plain-by, magnitude-plain, neg-once-more, xor-assoc, top-upper}
+use Rattle.numbers.specs.Numbers.{top, topSet, wrapped}
+use Rattle.flags.specs.{Word.setCO, declared.word.Flags.Flags}
+use Rattle.numbers.proofs.Powers.{top-twice}
+use Rattle.numbers.proofs.SignLaws.{signOf, plain, signed-by, abs-sign, quot-sign, rem-sign, wrapped-sign, plain-lt, plain-by, magnitude-plain, neg-once-more, xor-assoc, top-upper}
 use Rattle.negate.specs.Negate.{Pair, Negate}
 use Rattle.cord.proofs.CordLaws.{most-ones}
 use Rattle.divide.proofs.Borders.{wide-true, wide-false}
@@ -25,8 +20,7 @@ use Rattle.idiv.specs.Idiv as Idiv
 use Rattle.idiv.specs.Idiv.{preIdiv, withSign, postIdiv}
 use Rattle.divide.specs.Flags.{compareFlags}
 use Rattle.divide.specs.Divide.{Divided, accepted, refused, accepts, tooWide, applies, refusalOf, quotientOf, remainderOf, dividendOf, divisorOf, atFirst, preSteps, acceptedSteps, refusedSteps, acceptedFlags, refusedFlags, divide}
-use Rattle.divide.specs.Finish.{firstRefusal, finished}
-use Rattle.divide.specs.declared.div.Refusal.{Refusal}
+use Rattle.divide.specs.{Finish.firstRefusal, Finish.finished, declared.div.Refusal.Refusal}
 use Rattle.divide.specs.declared.div.Refusal.the-variants.{ZeroDivisor, TooWide, SignRange}
 
 -- a quotient is below m where the dividend's part above m is below the divisor; m and b exchanged, the other way round

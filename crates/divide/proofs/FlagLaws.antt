@@ -1,16 +1,11 @@
 -- The flags of a compare over the width n, from what the code calls; and that S is clear at 8 bits. Assumes nothing.
-use mathlib.Core.Path.{_≡_, ap, _∙_}
-use mathlib.Core.Bool.{Bool, false}
+use mathlib.Core.{Path._≡_, Path.ap, Path._∙_, Bool.Bool, Bool.false}
 use Prim.Native.Nat.{ℕ, _+_, _-_, _%_, _^_}
-use native.Mathlib.Nat.{mod-lt}
-use native.Mathlib.Omega.{arith}
+use native.Mathlib.{Nat.mod-lt, Omega.arith}
 use lib.Dec.{lit<}
 use borrow.Author.Tests.{lt-leb}
-use Rattle.flags.specs.Word.{setCOA}
-use Rattle.flags.specs.Szp.{szp}
-use Rattle.flags.specs.declared.word.Flags.{Flags}
-use Rattle.alu.specs.Result.{ResultCoa}
-use Rattle.alu.specs.Sum.{sbb, sub}
+use Rattle.flags.specs.{Word.setCOA, Szp.szp, declared.word.Flags.Flags}
+use Rattle.alu.specs.{Result.ResultCoa, Sum.sbb, Sum.sub}
 use Rattle.divide.specs.Flags.{compareFlags}
 
 pub compare-is : (n left right : ℕ) (carry : Bool) (f : Flags) {compare : ResultCoa} {named out : Flags}

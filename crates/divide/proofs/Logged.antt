@@ -1,24 +1,18 @@
 -- The steps of an accepted signed divide, by its quotient's magnitude and the two signs alone; and the most that a divide takes.
 -- Assumes nothing.
-use mathlib.Core.Path.{_≡_, refl, sym, ap, _∙_}
-use mathlib.Core.Bool.{Bool, true, false, not, xor, _&&_, false≢true}
-use mathlib.Core.Logic.{⊎-elim}
+use mathlib.Core.{Path._≡_, Path.refl, Path.sym, Path.ap, Path._∙_, Bool.Bool, Bool.true, Bool.false, Bool.not, Bool.xor, Bool._&&_, Bool.false≢true, Logic.⊎-elim}
 use Prim.Native.Nat.{ℕ, _+_, _-_, _*_, _/_, _^_, _≤_, _<_}
 use native.Mathlib.Omega.{arith}
-use lib.Count.{ones, ones-le}
-use lib.Dec.{ltb}
-use lib.IntN.{natAbs}
+use lib.{Count.ones, Count.ones-le, Dec.ltb, IntN.natAbs}
 use borrow.Author.Tests.{ltb-true}
-use Rattle.flags.specs.Numbers.{top, topSet}
+use Rattle.numbers.specs.Numbers.{top, topSet}
 use Rattle.flags.specs.declared.word.Flags.{Flags}
-use Rattle.flags.proofs.Powers.{top-twice}
-use Rattle.flags.proofs.SignLaws.{abs-sign}
+use Rattle.numbers.proofs.{Powers.top-twice, SignLaws.abs-sign}
 use Rattle.divide.specs.Divide.{accepts, quotientOf, dividendOf, divisorOf, atFirst, preSteps, refusedSteps, divide}
-use Rattle.cord.specs.Cord.{noBorrows}
 use Rattle.divide.specs.StepLog.{shelfMagnitude, logged}
+use Rattle.cord.specs.Cord.{noBorrows}
 use Rattle.divide.proofs.DivLaws.{below, divisor-half, pre-most, zero-or-not, rule, quotient-by}
-use Rattle.cord.proofs.CordLaws.{most-ones}
-use Rattle.cord.proofs.RoadLaws.{plain-ones}
+use Rattle.cord.proofs.{CordLaws.most-ones, RoadLaws.plain-ones}
 
 module _ (n d b : ℕ) (rep : Bool) (f : Flags) (hn : 0 < n) (hd : d < 2 ^ (n + n)) (hb : b < 2 ^ n) (agreed : accepts n true d b ≡ true) where
   divisor-pos : 0 < divisorOf n true b

@@ -1,22 +1,16 @@
 -- The manual's division determines quotient and remainder, and those of the definitions are they. What the chart accepts is what the manual
 -- does: the divisor is not 0, and the quotient is in range. Assumes nothing.
 use mathlib.Core.Path.{_≡_, refl, sym, ap, ap₂, subst, subst⁻¹, _∙_}
-use mathlib.Core.Bool.{Bool, true, false, not, xor, _&&_, and-true}
-use mathlib.Core.Logic.{_⊎_, inl, inr}
-use Prim.Native.Nat.{ℕ, zero, suc, _+_, _-_, _*_, _/_, _%_, _^_, _≤_, _<_}
-use native.Mathlib.Nat.{div-add-mod', mod-lt}
-use native.Mathlib.Omega.{arith}
-use lib.Arith.{digits-div, digits-mod}
-use lib.Dec.{leb, ltb, eqb, leb·suc-suc}
-use lib.IntN.{ℤ, pos, negsuc, negℤ, natAbs, _+ℤ_, _*ℤ_, negℤ-+ℤ}
-use lib.Pow.{pow-pos}
-use lib.Signed.{quotZ, remZ, leZ}
+use mathlib.Core.{Bool.Bool, Bool.true, Bool.false, Bool.not, Bool.xor, Bool._&&_, Bool.and-true, Logic._⊎_, Logic.inl, Logic.inr}
+use Prim.Native.Nat.{ℕ, zero, suc, _+_, _-_, _*_, _/_, _%_, _^_, _<_}
+use native.Mathlib.{Nat.div-add-mod', Nat.mod-lt, Omega.arith}
+use lib.{Arith.digits-div, Arith.digits-mod, Dec.leb, Dec.ltb, Dec.eqb, Dec.leb·suc-suc, IntN.ℤ, IntN.pos, IntN.negsuc, IntN.negℤ, IntN.natAbs, IntN._+ℤ_, IntN._*ℤ_, IntN.negℤ-+ℤ}
+use lib.{Pow.pow-pos, Signed.quotZ, Signed.remZ, Signed.leZ}
 use borrow.Author.Tests.{leb-true, leb-false, ltb-true, ltb-false, le-leb, lt-leb, lt-ltb, le-ltb, ne-eqb}
-use Rattle.flags.specs.Numbers.{top}
-use Rattle.flags.proofs.SignedLaws.{Diff, above, below, diff-add, diff-neg, same-test}
-use Rattle.flags.proofs.SignLaws.{signOf, abs-sign, mul-sign, quot-sign, rem-sign}
-use Rattle.divide.specs.Divide.{accepts, quotientOf}
-use Rattle.divide.specs.Manual.{negative, Division, largestQuotient, inRange}
+use Rattle.numbers.specs.Numbers.{top}
+use Rattle.numbers.proofs.SignedLaws.{Diff, above, below, diff-add, diff-neg, same-test}
+use Rattle.numbers.proofs.SignLaws.{signOf, abs-sign, mul-sign, quot-sign, rem-sign}
+use Rattle.divide.specs.{Divide.accepts, Divide.quotientOf, Manual.negative, Manual.Division, Manual.largestQuotient, Manual.inRange}
 use Rattle.divide.proofs.DivLaws.{below as quotient-below}
 
 -- every number is its sign and its magnitude

@@ -5,20 +5,16 @@ use mathlib.Core.Bool.{Bool, true, false, not, cond, _&&_, _||_, and-eq-true-iff
 use mathlib.Core.Logic.{_⊎_, inl, inr, _↔_}
 use Prim.Native.Nat.{ℕ, _+_, _/_, _^_, _≤_, _<_}
 use native.Mathlib.Omega.{arith}
-use lib.Dec.{ltb, eqb}
-use lib.IntN.{ℤ, natAbs}
+use lib.{Dec.ltb, Dec.eqb, IntN.ℤ, IntN.natAbs}
 use borrow.Author.Tests.{ne-eqb, not-true}
-use Rattle.flags.specs.Numbers.{top, valued}
+use Rattle.numbers.specs.Numbers.{top, valued}
 use Rattle.flags.specs.declared.word.Flags.{Flags}
 use Rattle.cord.specs.Cord.{noRoads}
 use Rattle.divide.specs.Divide.{Divided, accepted, refused, accepts, tooWide, signRange, applies, refusalOf, quotientOf, atFirst, refusedSteps, refusedFlags, resultsOf, divide}
-use Rattle.divide.specs.Manual.{Division, isRefused}
-use Rattle.divide.specs.declared.div.Refusal.{Refusal}
+use Rattle.divide.specs.{Manual.Division, Manual.isRefused, declared.div.Refusal.Refusal}
 use Rattle.divide.specs.declared.div.Refusal.the-variants.{ZeroDivisor, TooWide, SignRange}
 use Rattle.divide.proofs.Borders.{true-wide, wide-true, true-range, range-true, wide-or-range, wide-unfit}
-use Rattle.divide.proofs.DivLaws.{compared-first, refused-is, known}
-use Rattle.divide.proofs.Manual.{quotient-fits}
-use Rattle.divide.proofs.Answers.{not-by-zero, quotient-is}
+use Rattle.divide.proofs.{DivLaws.compared-first, DivLaws.refused-is, DivLaws.known, Manual.quotient-fits, Answers.not-by-zero, Answers.quotient-is}
 
 -- the first compare refuses for the first two reasons, and for no other
 pub first-two : (n : ℕ) (s : Bool) (d b : ℕ) → 0 < n → d < 2 ^ (n + n) → b < 2 ^ n → atFirst n s d b ≡ applies ZeroDivisor n s d b || applies TooWide n s d b

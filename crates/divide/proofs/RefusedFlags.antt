@@ -1,20 +1,13 @@
 -- The flags that a refused divide leaves, over the width n: by its reason, those of the first compare or of the last; C is clear; the flags
 -- handed in are not seen. Assumes nothing.
-use mathlib.Core.Path.{_≡_, refl, sym, ap, ap₂, _∙_}
-use mathlib.Core.Bool.{Bool, true, false, _||_, or-true, false≢true}
+use mathlib.Core.{Path._≡_, Path.refl, Path.sym, Path.ap, Path.ap₂, Path._∙_, Bool.Bool, Bool.true, Bool.false, Bool._||_, Bool.or-true, Bool.false≢true}
 use Prim.Native.Nat.{ℕ, zero, suc, _+_, _-_, _*_, _/_, _^_, _≤_, _<_}
-use native.Mathlib.Nat.{div-lt-iff-lt-mul}
-use native.Mathlib.Omega.{arith}
-use lib.Dec.{leb}
-use lib.Pow.{pow-add, pow-pos}
+use native.Mathlib.{Nat.div-lt-iff-lt-mul, Omega.arith}
+use lib.{Dec.leb, Pow.pow-add, Pow.pow-pos}
 use borrow.Author.Tests.{leb-false, eqb-true}
-use Rattle.flags.specs.Word.{setCOA}
-use Rattle.flags.specs.Szp.{szp}
-use Rattle.flags.proofs.Powers.{top-twice}
-use Rattle.flags.proofs.SignLaws.{plain-lt, magnitude-plain}
-use Rattle.flags.specs.declared.word.Flags.{Flags}
-use Rattle.alu.specs.Result.{ResultCoa}
-use Rattle.alu.specs.Sum.{sub}
+use Rattle.flags.specs.{Word.setCOA, Szp.szp, declared.word.Flags.Flags}
+use Rattle.numbers.proofs.{Powers.top-twice, SignLaws.plain-lt, SignLaws.magnitude-plain}
+use Rattle.alu.specs.{Result.ResultCoa, Sum.sub}
 use Rattle.alu.proofs.SumLaws.{sub-nothing}
 use Rattle.cord.specs.Cord.{shifted, Road, roadBy, lastBy, lastCompare}
 use Rattle.divide.specs.Flags.{compareFlags}
@@ -22,9 +15,7 @@ use Rattle.divide.specs.Divide.{Divided, refused, applies, dividendOf, d
 use Rattle.divide.specs.declared.div.Refusal.{Refusal}
 use Rattle.divide.specs.declared.div.Refusal.the-variants.{ZeroDivisor, TooWide, SignRange}
 use Rattle.cord.proofs.RoadLaws.{never-out}
-use Rattle.divide.proofs.DivLaws.{divisor-half}
-use Rattle.divide.proofs.Answers.{nothing}
-use Rattle.divide.proofs.Refusals.{first-two, one-alone, refused-whole, refused-for}
+use Rattle.divide.proofs.{DivLaws.divisor-half, Answers.nothing, Refusals.first-two, Refusals.one-alone, Refusals.refused-whole, Refusals.refused-for}
 
 -- a divide sets all six, accepted or refused, so that those handed in are not seen
 pub flags-not-seen : (n : ℕ) (s rep : Bool) (d b : ℕ) (f g : Flags) → divide n s rep d b f ≡ divide n s rep d b g

@@ -1,14 +1,11 @@
 -- What is returned of a quotient has its magnitude, with REP or without. Assumes nothing.
-use mathlib.Core.Path.{_≡_, refl, sym, ap, _∙_}
-use mathlib.Core.Bool.{Bool, true, false, not, and-eq-true-iff}
+use mathlib.Core.{Path._≡_, Path.refl, Path.sym, Path.ap, Path._∙_, Bool.Bool, Bool.true, Bool.false, Bool.not, Bool.and-eq-true-iff}
 use Prim.Native.Nat.{ℕ, zero, suc, _/_, _^_, _<_}
-use native.Mathlib.Nat.{mod-eq-of-lt}
-use native.Mathlib.Omega.{arith}
-use lib.Dec.{ltb, eqb}
-use lib.IntN.{ℤ, pos, negsuc, negℤ, natAbs}
+use native.Mathlib.{Nat.mod-eq-of-lt, Omega.arith}
+use lib.{Dec.ltb, Dec.eqb, IntN.ℤ, IntN.pos, IntN.negsuc, IntN.negℤ, IntN.natAbs}
 use borrow.Author.Tests.{ltb-true}
-use Rattle.flags.specs.Numbers.{top, magnitude, wrapped}
-use Rattle.flags.proofs.SignLaws.{signed-wrapped}
+use Rattle.numbers.specs.Numbers.{top, magnitude, wrapped}
+use Rattle.numbers.proofs.SignLaws.{signed-wrapped}
 use Rattle.divide.specs.Divide.{accepts, quotientOf, quotientReturned, resultsOf}
 use Rattle.divide.proofs.Manual.{quotient-fits}
 

@@ -1,19 +1,15 @@
 -- The roads of a divide over the width n: the two tallies add up to the ones of the quotient's magnitude, signed the first is 0, and the steps
 -- follow from them. Assumes nothing.
-use mathlib.Core.Path.{_≡_, refl, sym, ap, _∙_}
-use mathlib.Core.Bool.{Bool, true, false, not, _||_, false≢true}
-use mathlib.Core.Logic.{inl, inr}
+use mathlib.Core.{Path._≡_, Path.refl, Path.sym, Path.ap, Path._∙_, Bool.Bool, Bool.true, Bool.false, Bool.not, Bool._||_, Bool.false≢true, Logic.inl, Logic.inr}
 use Prim.Native.Nat.{ℕ, _+_, _*_, _/_, _%_, _^_, _≤_, _<_}
 use native.Mathlib.Omega.{arith}
-use lib.Count.{ones}
-use lib.IntN.{natAbs}
+use lib.{Count.ones, IntN.natAbs}
 use borrow.Author.Tests.{leb-false}
 use Rattle.flags.specs.declared.word.Flags.{Flags}
 use Rattle.cord.specs.Cord.{Roads, noRoads}
 use Rattle.cord.proofs.RoadLaws.{all-ones, none-out}
 use Rattle.divide.specs.Divide.{Divided, refused, accepts, applies, quotientOf, dividendOf, divisorOf, atFirst, acceptedSteps, acceptedRoads, divide}
-use Rattle.divide.specs.StepLog.{logged, otherSteps}
-use Rattle.divide.specs.declared.div.Refusal.{Refusal}
+use Rattle.divide.specs.{StepLog.logged, StepLog.otherSteps, declared.div.Refusal.Refusal}
 use Rattle.divide.specs.declared.div.Refusal.the-variants.{ZeroDivisor, TooWide, SignRange}
 use Rattle.divide.proofs.DivLaws.{divisor-half, ByMagnitudes, compared-first, known}
 use Rattle.divide.proofs.Refusals.{three-cover, refused-whole, refused-for}

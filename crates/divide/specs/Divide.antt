@@ -1,11 +1,11 @@
 -- Divide: 2n bits by n bits. Quotient, remainder and refusals are the manual's; REP, flags and steps are the chart's.
 -- Assumes nothing.
 use mathlib.Core.Bool.{Bool, true, false, not, cond, _&&_}
-use Prim.Native.Nat.{ℕ, _+_, _-_, _*_, _/_, _%_, _^_}
+use Prim.Native.Nat.{ℕ, _+_, _-_, _*_, _/_, _^_}
 use lib.Dec.{leb, ltb, eqb}
 use lib.IntN.{ℤ, negℤ, natAbs}
 use lib.Signed.{quotZ, remZ}
-use Rattle.flags.specs.Numbers.{between, top, topSet, valued, magnitude, wrapped}
+use Rattle.numbers.specs.Numbers.{between, top, topSet, valued, magnitude, wrapped}
 use Rattle.flags.specs.Word.{setCO}
 use Rattle.flags.specs.declared.word.Flags.{Flags}
 use Rattle.cord.specs.Cord.{Results, Roads, roadsOf, noRoads, lastCompare, cordSteps}

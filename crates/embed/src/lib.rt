@@ -14,8 +14,8 @@ ghost use Rattle.roads.specs.Told.{tallied, roadsTold};
 ghost use Rattle.registers.specs.Over.{over, registersOf, settledAs};
 ghost use Rattle.packed.specs.Sum.{plus, minus};
 ghost use Rattle.packed.specs.Told.{told, toldBy};
-ghost use Rattle.record.specs.Judge.{readBack};
-ghost use Rattle.record.specs.Told.{statusOf as readStatus, recordLeft, turn, turnAt};
+ghost use Rattle.readback.specs.Judge.{readBack};
+ghost use Rattle.readback.specs.Told.{statusOf as readStatus, recordLeft, turn, turnAt};
 use answer::ask;
 use flags::parity;
 use line::one;
@@ -136,7 +136,7 @@ pub extern "C" fn hatchyarn_packed_subtract(
 pub extern "C" fn hatchyarn_read_answer(line: &[u8], record: &mut [u16; 5]) -> u8
     ensures { λ r. ⌜ (r ≡ readStatus (readBack (now (line .entry)))) × (now («record» .exit) ≡ recordLeft (readBack (now (line .entry))) (now («record» .entry))) ⌝ }
 {
-    record::told::tell(record::one::read_answer(line), record)
+    readback::told::tell(readback::one::read_answer(line), record)
 }
 
 // The answer line from `place` on: the same, and `start` becomes where it starts, `place` where the next
@@ -150,5 +150,10 @@ pub extern "C" fn hatchyarn_next_answer(
 ) -> u8
     ensures { λ r. ⌜ turn r (now (place .exit)) (now («record» .exit)) (now (start .exit)) ≡ turnAt (now (text .entry)) (now (place .entry)) (now («record» .entry)) (now (start .entry)) ⌝ }
 {
-    record::told::tell_next(record::reader::next_at(text, *place), place, record, start)
+    readback::told::tell_next(
+        readback::reader::next_at(text, *place),
+        place,
+        record,
+        start,
+    )
 }

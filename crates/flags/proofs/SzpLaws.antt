@@ -1,16 +1,11 @@
 -- S, Z and P of a result of n bits, from what the code tests. Assumes nothing.
-use mathlib.Core.Path.{_≡_, refl, ap}
-use mathlib.Core.Bool.{Bool, not}
+use mathlib.Core.{Path._≡_, Path.ap, Bool.Bool, Bool.not}
 use Prim.Native.Nat.{ℕ, _%_, _^_, _<_}
 use native.Mathlib.Nat.{mod-mod}
-use lib.Dec.{eqb}
-use lib.Bits.{bitAnd}
-use lib.Count.{ones}
-use Rattle.flags.specs.Numbers.{top}
-use Rattle.flags.specs.Parity.{evenOnes}
-use Rattle.flags.specs.Szp.{szp}
-use Rattle.flags.specs.declared.word.Flags.{Flags}
-use Rattle.flags.proofs.Masks.{mask-top}
+use lib.{Dec.eqb, Bits.bitAnd, Count.ones}
+use Rattle.numbers.specs.Numbers.{top}
+use Rattle.flags.specs.{Parity.evenOnes, Szp.szp, declared.word.Flags.Flags}
+use Rattle.numbers.proofs.Masks.{mask-top}
 
 -- P asks of a number no more than its low eight bits
 pub even-low : (x : ℕ) → evenOnes (x % 256) ≡ evenOnes x

@@ -1,17 +1,13 @@
 -- The flags word taken apart and put together: each undoes the other within 08D5, and together never leaves it.
 -- Assumes nothing.
-use mathlib.Core.Path.{_≡_, refl, sym, ap, subst, _∙_}
-use mathlib.Core.Bool.{Bool, true, false}
-use Prim.Native.Nat.{ℕ, zero, suc, _+_, _*_, _/_, _%_, _^_, _≤_, _<_}
-use native.Mathlib.Nat.{mod-lt, mod-eq-of-lt}
-use native.Mathlib.Omega.{arith}
-use lib.Bits.{bitAnd, bitOr, or-shifted, and-mask, and-shr, and-mod, and-zero-r, and-le-r}
-use lib.Dec.{eqb, lit<}
-use borrow.Author.Tests.{eqb-true, eq-eqb}
-use Rattle.flags.specs.Numbers.{bit, isSet}
-use Rattle.flags.specs.Word.{wordOf, flagsOf, isFlags}
-use Rattle.flags.specs.declared.word.Flags.{Flags}
-use Rattle.flags.proofs.Masks.{digit-and}
+use mathlib.Core.{Path._≡_, Path.refl, Path.sym, Path.ap, Path._∙_, Bool.true}
+use Prim.Native.Nat.{ℕ, zero, _+_, _*_, _/_, _%_, _^_, _≤_, _<_}
+use native.Mathlib.{Nat.mod-lt, Nat.mod-eq-of-lt, Omega.arith}
+use lib.{Bits.bitAnd, Bits.bitOr, Bits.or-shifted, Bits.and-mask, Bits.and-shr, Bits.and-mod, Bits.and-zero-r, Bits.and-le-r, Dec.eqb, Dec.lit<}
+use borrow.Author.Tests.{eq-eqb}
+use Rattle.numbers.specs.Numbers.{bit, isSet}
+use Rattle.flags.specs.{Word.wordOf, Word.flagsOf, Word.isFlags, declared.word.Flags.Flags}
+use Rattle.numbers.proofs.{Masks.digit-and, BitLaws.bit-le, BitLaws.flag-of, BitLaws.bit-isSet}
 
 -- a word with no bit set but those six, all together 08D5
 pub record Within (w : ℕ) : Type 0 where
@@ -20,23 +16,6 @@ pub record Within (w : ℕ) : Type 0 where
   pub bit5 : w / 32 % 2 ≡ 0
   pub bits8to10 : w / 256 % 8 ≡ 0
   pub above : w < 4096
-
-pub bit-le : (b : Bool) → bit b ≤ 1
-bit-le true = omega arith
-bit-le false = omega arith
-
--- a flag is its digit tested
-pub flag-of : (b : Bool) {d : ℕ} → d ≡ bit b → eqb d 1 ≡ b
-flag-of true e = ap (λ (x : ℕ). eqb x 1) e
-flag-of false e = ap (λ (x : ℕ). eqb x 1) e
-
-digit-of : (d : ℕ) → d < 2 → bit (eqb d 1) ≡ d
-digit-of zero h = refl
-digit-of (suc zero) h = refl
-digit-of (suc (suc d)) h = absurd (omega arith)
-
-pub bit-isSet : (k w : ℕ) → bit (isSet k w) ≡ w / 2 ^ k % 2
-bit-isSet k w = digit-of (w / 2 ^ k % 2) (mod-lt (w / 2 ^ k) (lit< tt))
 
 -- what a word of six digits has at each place
 module _ (c p a z s o w : ℕ) (hc : c ≤ 1) (hp : p ≤ 1) (ha : a ≤ 1) (hz : z ≤ 1) (hs : s ≤ 1) (ho : o ≤ 1)
@@ -155,11 +134,7 @@ pushed-six f =
     let w9 = push 2 _ (bit (f .parity)) w7 (omega arith) (omega arith) in
     push 2 _ (bit (f .carry)) w9 (omega arith) (omega arith) ∙ omega arith
 
--- the test is exact
-pub flags-within : (w : ℕ) → isFlags w ≡ true → Within w
-unfolding isFlags
-flags-within w e = subst Within (eqb-true (wordOf (flagsOf w)) w e) (together-within (flagsOf w))
-
+-- a word within 08D5 passes the test
 pub within-flags : (w : ℕ) → Within w → isFlags w ≡ true
 unfolding isFlags
 within-flags w h = eq-eqb (wordOf (flagsOf w)) w (together-apart w h)

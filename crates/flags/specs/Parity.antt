@@ -5,8 +5,8 @@ use mathlib.Core.List.{List}
 use Prim.Native.Nat.{ℕ, _%_}
 use lib.Dec.{eqb}
 use lib.Count.{ones}
-use Rattle.flags.specs.Numbers.{bit}
-use Rattle.flags.specs.Table.{Holds}
+use Rattle.numbers.specs.Numbers.{bit}
+use Rattle.numbers.specs.Table.{Holds}
 
 -- the ones in that byte are even in number
 unfoldable pub evenOnes : ℕ → Bool

@@ -2,7 +2,7 @@
 -- Assumes nothing.
 use Prim.Native.Nat.{ℕ}
 use lib.Dec.{eqb}
-use Rattle.flags.specs.Numbers.{topSet}
+use Rattle.numbers.specs.Numbers.{topSet}
 use Rattle.flags.specs.Parity.{evenOnes}
 use Rattle.flags.specs.declared.word.Flags.{Flags}
 

@@ -3,7 +3,7 @@
 use mathlib.Core.Bool.{Bool}
 use Prim.Native.Nat.{ℕ, _+_, _*_}
 use lib.Dec.{eqb}
-use Rattle.flags.specs.Numbers.{bit, isSet}
+use Rattle.numbers.specs.Numbers.{bit, isSet}
 use Rattle.flags.specs.declared.word.Flags.{Flags}
 
 -- C is the word's bit 0, P its bit 2, A 4, Z 6, S 7 and O 11

@@ -1,19 +1,13 @@
 -- What the program keeps is what it may keep: all that a text leaves, or where that fills the buffer its first bytes, more than 20 of them. Then the
 -- answers written turn by turn are those of one run over the whole input (`by-turns`).
 -- Assumes nothing.
-use mathlib.Core.Path.{_≡_, sym, ap, _∙_}
-use mathlib.Core.Bool.{Bool, true, false}
-use mathlib.Core.List.{List, [], _++_, append-assoc, append-nil}
+use mathlib.Core.{Path._≡_, Path.sym, Path.ap, Path._∙_, Bool.Bool, Bool.true, Bool.false, List.List, List.[], List._++_, List.append-assoc, List.append-nil}
 use Prim.Native.Nat.{ℕ, _-_, _<_, _≤_}
 use native.Mathlib.Omega.{arith}
-use lib.ListN.{length, take, drop, length-drop, drop-of-length-le}
-use lib.Seq.{length-take-le, take-take}
+use lib.{ListN.length, ListN.take, ListN.drop, ListN.length-drop, ListN.drop-of-length-le, Seq.length-take-le, Seq.take-take}
 use Rattle.blocks.proofs.Front.{at-front}
-use Rattle.line.specs.One.{textOf}
-use Rattle.line.specs.Whole.{whole}
-use Rattle.line.proofs.RunLaws.{used-within}
-use Rattle.line.proofs.LongLines.{none-at-start}
-use Rattle.line.proofs.WholeLaws.{whole-at-end, no-feed-left, whole-by-blocks, whole-long-starts}
+use Rattle.line.specs.{One.textOf, Whole.whole}
+use Rattle.line.proofs.{RunLaws.used-within, LongLines.none-at-start, WholeLaws.whole-at-end, WholeLaws.no-feed-left, WholeLaws.whole-by-blocks, WholeLaws.whole-long-starts}
 use Rattle.hatchyarn.specs.Kept.{Keeps, Turns, last, turn}
 
 -- all that is left

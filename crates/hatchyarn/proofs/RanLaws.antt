@@ -1,16 +1,10 @@
 -- One turn of the loop over a text: a run over what stands from `start` on, with room for m answers. Assumes nothing.
-use mathlib.Core.Path.{_≡_, ap, _∙_}
-use mathlib.Core.Bool.{Bool}
-use mathlib.Core.List.{List}
+use mathlib.Core.{Path._≡_, Path.ap, Bool.Bool, List.List}
 use Prim.Native.Nat.{ℕ, _+_, _-_, _<_, _≤_}
 use native.Mathlib.Omega.{arith}
-use lib.ListN.{length, take, drop, length-drop}
-use lib.Seq.{take-all, drop-drop}
-use Rattle.line.specs.One.{textOf}
-use Rattle.line.specs.Run.{Done, done, runOf}
-use Rattle.line.specs.Whole.{whole}
-use Rattle.line.proofs.RunLaws.{ran-within}
-use Rattle.line.proofs.WholeLaws.{whole-goes-on, nothing-left}
+use lib.{ListN.length, ListN.take, ListN.drop, ListN.length-drop, Seq.take-all, Seq.drop-drop}
+use Rattle.line.specs.{One.textOf, Run.Done, Run.done, Run.runOf, Whole.whole}
+use Rattle.line.proofs.{RunLaws.ran-within, WholeLaws.whole-goes-on, WholeLaws.nothing-left}
 
 module _ (m start : ℕ) (e : Bool) (text room bytes : List ℕ) (lines used : ℕ) (ran : done bytes lines used ≡ runOf m e (take (length text - start) (drop start text)) room) where
   over-rest : done bytes lines used ≡ runOf m e (drop start text) room

@@ -1,21 +1,16 @@
 -- PREIDIV and POSTIDIV over the width n, from what the code calls.
 -- Assumes nothing.
-use mathlib.Core.Path.{_≡_, refl, sym, ap, ap₂, _∙_}
-use mathlib.Core.Bool.{Bool, true, false, not, cond, xor}
+use mathlib.Core.{Path._≡_, Path.sym, Path.ap, Path.ap₂, Path._∙_, Bool.Bool, Bool.true, Bool.false, Bool.not, Bool.cond, Bool.xor}
 use Prim.Native.Nat.{ℕ, _+_, _*_, _/_, _%_, _^_, _<_}
 use native.Mathlib.Omega.{arith}
-use lib.Arith.{digits-div, digits-mod}
-use lib.Bits.{bitAnd}
-use lib.Dec.{eqb}
-use Rattle.flags.specs.Numbers.{top, topSet, negated}
-use Rattle.flags.proofs.Masks.{mask-top, top-masked, top-unmasked}
-use Rattle.flags.proofs.SignLaws.{xor-true, xor-false}
-use Rattle.alu.specs.Result.{ResultCoa}
-use Rattle.alu.specs.Sum.{neg}
+use lib.{Arith.digits-div, Arith.digits-mod, Bits.bitAnd, Dec.eqb}
+use Rattle.numbers.specs.Numbers.{top, topSet, negated}
+use Rattle.numbers.proofs.{Masks.mask-top, Masks.top-masked, Masks.top-unmasked, SignLaws.xor-true, SignLaws.xor-false}
+use Rattle.alu.specs.{Result.ResultCoa, Sum.neg}
 use Rattle.alu.proofs.SumLaws.{neg-result}
 use Rattle.negate.specs.Negate.{Pair, Negate, pair, second, corNegate}
 use Rattle.cord.specs.Cord.{Results}
-use Rattle.idiv.specs.Idiv.{preIdiv, withSign, PostAnswer, accepted, refused, postIdiv}
+use Rattle.idiv.specs.Idiv.{preIdiv, withSign, accepted, refused, postIdiv}
 
 abbrev later : Pair → ℕ → Pair
 later p k = record { tmpa = p .tmpa; tmpc = p .tmpc; negFlag = p .negFlag; steps = p .steps + k }

@@ -1,8 +1,8 @@
 -- PREIDIV and POSTIDIV over the width n.
 -- Assumes nothing.
-use mathlib.Core.Bool.{Bool, true, false, cond, xor}
+use mathlib.Core.Bool.{Bool, cond, xor}
 use Prim.Native.Nat.{ℕ, _+_, _*_, _/_, _%_, _^_}
-use Rattle.flags.specs.Numbers.{topSet, negated}
+use Rattle.numbers.specs.Numbers.{topSet, negated}
 use Rattle.negate.specs.Negate.{Pair, Negate}
 use Rattle.cord.specs.Cord.{Results}
 

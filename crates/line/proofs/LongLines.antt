@@ -2,20 +2,14 @@
 -- The program's long lines rest on this. Of a line that fills its buffer it keeps the start alone; `long-starts-alike` says that whatever is read
 -- behind it, the answers are those that the whole line would get.
 -- Assumes nothing.
-use mathlib.Core.Path.{_≡_, refl, sym, ap, _∙_}
-use mathlib.Core.Bool.{Bool, true, false, cond}
-use mathlib.Core.List.{List, [], _∷_, _++_}
+use mathlib.Core.{Path._≡_, Path.refl, Path.sym, Path.ap, Path._∙_, Bool.Bool, Bool.true, Bool.false, Bool.cond, List.List, List.[], List._∷_, List._++_}
 use Prim.Native.Nat.{ℕ, zero, suc, _+_, _<_, _≤_}
 use native.Mathlib.Omega.{arith}
-use lib.Dec.{ltb, eqb}
-use lib.ListN.{length, take, drop, length-append}
-use lib.Seq.{take-append-add, drop-append-add}
+use lib.{Dec.ltb, Dec.eqb, ListN.length, ListN.take, ListN.drop, ListN.length-append, Seq.take-append-add, Seq.drop-append-add}
 use borrow.Author.Tests.{lt-ltb, le-ltb, ltb-true, ltb-false, ne-eqb}
-use Rattle.text.specs.Fields.{readOf}
-use Rattle.text.specs.Lines.{lineLength, takes}
+use Rattle.text.specs.{Fields.readOf, Lines.lineLength, Lines.takes}
 use Rattle.answer.specs.Asked.{zeros}
-use Rattle.line.specs.One.{textBy, answerOf, textOf}
-use Rattle.line.specs.Run.{runOf}
+use Rattle.line.specs.{One.textBy, One.answerOf, One.textOf, Run.runOf}
 use Rattle.line.proofs.Turns.{stops, full, goes}
 
 -- status 1 and zeros

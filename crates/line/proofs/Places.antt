@@ -2,18 +2,13 @@
 -- that there is room for, a run leaves the answers of the first m lines, joined, and then what stood after 19 m bytes; it has answered m lines and
 -- used their bytes. `answer-at`: bytes 19k to 19k + 18 are the answer of line k.
 -- Assumes nothing.
-use mathlib.Core.Path.{_≡_, ap, _∙_}
-use mathlib.Core.Bool.{Bool}
-use mathlib.Core.List.{List, [], _∷_, _++_, append-assoc, flatMap}
+use mathlib.Core.{Path._≡_, Path.ap, Path._∙_, Bool.Bool, List.List, List.[], List._∷_, List._++_, List.append-assoc, List.flatMap}
 use Prim.Native.Nat.{ℕ, zero, suc, _+_, _*_, _<_, min}
-use native.Mathlib.Nat.{zero-min, min-zero, suc-min-suc, not-suc-le-zero, le-of-suc-le-suc}
-use native.Mathlib.Omega.{arith}
-use lib.ListN.{length, getD, take, drop, length-drop}
-use lib.Seq.{take-at, drop-at, drop-drop, getD-take, length-take-le}
+use native.Mathlib.{Nat.zero-min, Nat.min-zero, Nat.suc-min-suc, Nat.not-suc-le-zero, Nat.le-of-suc-le-suc, Omega.arith}
+use lib.{ListN.length, ListN.getD, ListN.take, ListN.drop, ListN.length-drop, Seq.take-at, Seq.drop-at, Seq.drop-drop, Seq.getD-take, Seq.length-take-le}
 use Rattle.text.specs.Lines.{lineAt, takes, linesOf, bytesIn}
 use Rattle.text.proofs.NextLine.{first-takes, no-line, first-line}
-use Rattle.line.specs.Run.{Done, done, runBy}
-use Rattle.line.specs.Placed.{placed}
+use Rattle.line.specs.{Run.Done, Run.done, Run.runBy, Placed.placed}
 use Rattle.line.proofs.Turns.{by-run}
 
 pub places : (f : List ℕ → List ℕ) (room : ℕ) (e : Bool) (t o : List ℕ) → runBy f room e t o ≡ placed f (min room (length (linesOf e t))) e t o

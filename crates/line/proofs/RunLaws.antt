@@ -2,19 +2,14 @@
 -- with no room to go on, that bytes after the last answer are unchanged (`unchanged`). `by-blocks`: a block that is not the last may be run by
 -- itself. `joined`: two texts joined at a line's end are run one after the other. `lines-answered`, `used-within`: how far a run goes.
 -- Assumes nothing.
-use mathlib.Core.Path.{_≡_, refl, ap, _∙_}
-use mathlib.Core.Bool.{Bool, false}
-use mathlib.Core.List.{List, [], _∷_, _++_, append-assoc}
+use mathlib.Core.{Path._≡_, Path.refl, Path.ap, Path._∙_, Bool.Bool, Bool.false, List.List, List.[], List._∷_, List._++_, List.append-assoc}
 use Prim.Native.Nat.{ℕ, zero, suc, _+_, _*_, _<_, _≤_, min}
-use native.Mathlib.Nat.{zero-add, add-zero, add-assoc, suc-add, le-refl}
-use native.Mathlib.Omega.{arith}
-use lib.ListN.{length, drop, drop-of-length-le}
-use lib.Seq.{drop-append-le, drop-drop}
+use native.Mathlib.{Nat.zero-add, Nat.add-zero, Nat.add-assoc, Nat.suc-add, Nat.le-refl, Omega.arith}
+use lib.{ListN.length, ListN.drop, ListN.drop-of-length-le, Seq.drop-append-le, Seq.drop-drop}
 use Rattle.text.specs.Lines.{lineAt, takes, linesOf}
 use Rattle.text.proofs.NextLine.{takes-within, first-line, same-line, same-takes, all-taken}
 use Rattle.line.specs.Run.{Done, done, after, runBy}
-use Rattle.line.proofs.Places.{places}
-use Rattle.line.proofs.Turns.{stops, full, goes, by-run}
+use Rattle.line.proofs.{Places.places, Turns.stops, Turns.full, Turns.goes, Turns.by-run}
 
 module _ (f : List ℕ → List ℕ) where
   -- ---- how far a run goes

@@ -1,26 +1,18 @@
 -- The table of statuses for lines: each status exactly when its row applies and none before it does; no other status; zeros after 1 to 5;
 -- and demand 1. Assumes nothing.
-use mathlib.Core.Path.{_≡_, refl, sym, ap, subst, _∙_}
-use mathlib.Core.Bool.{Bool, true, false, not, cond}
-use mathlib.Core.List.{List, [], _∷_}
-use mathlib.Core.Logic.{_↔_}
+use mathlib.Core.{Path._≡_, Path.refl, Path.sym, Path.ap, Path.subst, Path._∙_, Bool.Bool, Bool.true, Bool.false, Bool.not, Bool.cond, List.List, List.[], List._∷_, Logic._↔_}
 use Prim.Native.Nat.{ℕ, _≤_}
-use lib.Dec.{ltb, eqb}
-use lib.ListN.{length}
+use lib.{Dec.ltb, Dec.eqb, ListN.length}
 use borrow.Author.Tests.{eqb-true, eqb-false, eq-eqb, ne-eqb, not-true, not-false}
 use Rattle.text.specs.Plain.{allDigits, fieldsIn}
 use Rattle.text.specs.declared.fields.Read.the-variants.{Fields as OfFields, Length, Digit}
 use Rattle.text.proofs.Plain.{read-plainly}
-use Rattle.answer.specs.Charted.{refusalStatus}
-use Rattle.answer.specs.Asked.{zeros, asked}
-use Rattle.answer.specs.Table.{Given, rows, OneOf}
-use Rattle.answer.specs.Refused.{Refusal, ZeroDivisor, TooWide, SignRange, RefusedDivide, refusal}
-use Rattle.answer.specs.declared.answer.Answer.{Answer}
-use Rattle.answer.proofs.Rows.{firstOf, first-given, first-one-of}
-use Rattle.answer.proofs.Table.{by-table, rest-zeros}
-use Rattle.answer.proofs.Demand1.{demand-1}
-use Rattle.line.specs.One.{answerBy, answerOf, statusIn}
-use Rattle.line.specs.Table.{rawIn, lineRows, table}
+use Rattle.answer.specs.{Charted.refusalStatus, Asked.zeros, Asked.asked, Table.rows}
+use Rattle.answer.specs.{Refused.Refusal, Refused.ZeroDivisor, Refused.TooWide, Refused.SignRange, Refused.RefusedDivide, Refused.refusal, declared.answer.Answer.Answer}
+use Rattle.numbers.specs.Rows.{Given, OneOf}
+use Rattle.numbers.proofs.RowLaws.{firstOf, first-given, first-one-of}
+use Rattle.answer.proofs.{Table.by-table, Table.rest-zeros, Demand1.demand-1}
+use Rattle.line.specs.{One.answerBy, One.answerOf, One.statusIn, Table.rawIn, Table.lineRows, Table.table}
 
 module _ (line : List ℕ) where
   -- what a line is answered by its length, then by its digits

@@ -1,19 +1,15 @@
 -- How a run takes one line more, and where it stops, for any way to answer a line; one induction for all laws of runs; and the loop's turn over
 -- lent answer bytes. Assumes nothing.
-use mathlib.Core.Path.{_≡_, refl, sym, ap, _∙_}
-use mathlib.Core.Bool.{Bool}
-use mathlib.Core.List.{List, _++_, append-assoc, append-nil}
+use mathlib.Core.{Path._≡_, Path.refl, Path.sym, Path.ap, Path._∙_, Bool.Bool, List.List, List._++_, List.append-assoc, List.append-nil}
 use Prim.Native.Nat.{ℕ, zero, suc, _+_, _-_, _*_, _<_, _≤_}
-use native.Mathlib.Nat.{add-assoc, add-zero}
-use native.Mathlib.Omega.{arith}
+use native.Mathlib.{Nat.add-assoc, Nat.add-zero, Omega.arith}
 use lib.ListN.{length, take, drop, length-append, length-drop, take-append-drop, drop-of-length-le}
 use lib.Seq.{take-at, drop-at, drop-drop, length-take-le}
 use borrow.Author.Tests.{eq-eqb, ne-eqb}
 use borrow.Rule.Slice.PartMut.{putMid}
 use Rattle.text.specs.Lines.{lineAt, takes}
 use Rattle.text.proofs.ReadBack.{written-length}
-use Rattle.line.specs.One.{textOf}
-use Rattle.line.specs.Run.{Done, done, after, runBy}
+use Rattle.line.specs.{One.textOf, Run.Done, Run.done, Run.after, Run.runBy}
 
 pub textOf-length : (line : List ℕ) → length (textOf line) ≡ 19
 unfolding textOf

@@ -2,23 +2,15 @@
 -- `nothing-left`: where a run uses nothing no line is left; `whole-at-end`: with the mark all is used; `no-feed-left`: without it what is left holds no
 -- line feed; `whole-by-blocks`: the answers to two blocks are those to the first, and then those to what it leaves with the second behind it.
 -- Assumes nothing.
-use mathlib.Core.Path.{_≡_, refl, sym, ap, _∙_}
-use mathlib.Core.Bool.{Bool, true, false, cond}
-use mathlib.Core.List.{List, [], _∷_, _++_, append-nil}
+use mathlib.Core.{Path._≡_, Path.refl, Path.ap, Path._∙_, Bool.Bool, Bool.true, Bool.false, Bool.cond, List.List, List.[], List._∷_, List._++_, List.append-nil}
 use Prim.Native.Nat.{ℕ, zero, suc, _+_, _-_, _*_, _<_, _≤_}
-use native.Mathlib.Nat.{add-zero, le-refl}
-use native.Mathlib.Omega.{arith}
-use lib.Dec.{ltb, eqb}
-use lib.ListN.{length, drop, length-append, length-drop}
-use lib.Seq.{drop-nil}
+use native.Mathlib.{Nat.add-zero, Nat.le-refl, Omega.arith}
+use lib.{Dec.ltb, Dec.eqb, ListN.length, ListN.drop, ListN.length-append, ListN.length-drop, Seq.drop-nil}
 use borrow.Author.Tests.{ltb-false}
 use Rattle.text.specs.Lines.{lineLength, takes, withByte, linesOf}
 use Rattle.text.proofs.LineLaws.{end-within}
-use Rattle.line.specs.Run.{Done, runOf}
-use Rattle.line.specs.One.{textOf}
-use Rattle.line.specs.Whole.{whole}
-use Rattle.line.proofs.Turns.{stops, goes}
-use Rattle.line.proofs.RunLaws.{used-within, continued, unchanged, by-blocks, all-answered}
+use Rattle.line.specs.{Run.Done, Run.runOf, One.textOf, Whole.whole}
+use Rattle.line.proofs.{Turns.stops, Turns.goes, RunLaws.used-within, RunLaws.continued, RunLaws.unchanged, RunLaws.by-blocks, RunLaws.all-answered}
 use Rattle.line.proofs.LongLines.{Unbroken, long-starts-alike}
 
 -- ---- more room than a whole run has changes nothing

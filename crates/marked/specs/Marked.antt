@@ -3,7 +3,7 @@
 -- with one quotient whose steps differ, also say by which road its one came. Assumes nothing.
 use mathlib.Core.List.{List, [], _∷_}
 use Prim.Native.Nat.{ℕ}
-use Rattle.flags.specs.Numbers.{bit, isSet}
+use Rattle.numbers.specs.Numbers.{bit, isSet}
 use Rattle.answer.specs.Asked.{Raw, raw, asked}
 use Rattle.answer.specs.declared.answer.Answer.{Answer}
 use Rattle.roads.specs.Told.{roadsTold}

@@ -1,16 +1,12 @@
 -- The manual on what a multiply answers: 2n bits, read as a number that is signed or not, and C and O. Assumes nothing.
-use mathlib.Core.Path.{_≡_, refl, sym, ap, _∙_}
-use mathlib.Core.Bool.{Bool, true, false}
+use mathlib.Core.{Path._≡_, Path.refl, Path.sym, Path.ap, Path._∙_, Bool.Bool, Bool.true, Bool.false}
 use Prim.Native.Nat.{ℕ, _+_, _*_, _^_, _<_}
 use native.Mathlib.Omega.{arith}
 use lib.IntN.{pos, natAbs, _*ℤ_}
-use Rattle.flags.specs.Numbers.{valued}
-use Rattle.flags.specs.Szp.{szp}
-use Rattle.flags.specs.declared.word.Flags.{Flags}
-use Rattle.flags.proofs.Powers.{top-double, product-lt}
-use Rattle.flags.proofs.SignLaws.{plain, abs-sign, signed-wrapped, wrapped-sign}
-use Rattle.multiply.specs.Manual.{significant}
-use Rattle.multiply.specs.Multiply.{negates, multiply}
+use Rattle.numbers.specs.Numbers.{valued}
+use Rattle.flags.specs.{Szp.szp, declared.word.Flags.Flags}
+use Rattle.numbers.proofs.{Powers.top-double, Powers.product-lt, SignLaws.plain, SignLaws.abs-sign, SignLaws.signed-wrapped, SignLaws.wrapped-sign}
+use Rattle.multiply.specs.{Manual.significant, Multiply.negates, Multiply.multiply}
 use Rattle.multiply.proofs.CarryLaws.{size-lt, productValue-is, manual-rule}
 
 module _ (n x y : ℕ) (f : Flags) (hn : 0 < n) (hx : x < 2 ^ n) (hy : y < 2 ^ n) where

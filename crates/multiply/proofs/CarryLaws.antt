@@ -1,21 +1,16 @@
 -- C and O of a signed product: the manual's rule, the chart's, that the product does not fit n signed bits, and IMULCOF's sum are one rule.
 -- Assumes nothing.
-use mathlib.Core.Path.{_≡_, refl, sym, ap, ap₂, _∙_}
-use mathlib.Core.Bool.{Bool, true, false, not, cond, xor, _&&_}
+use mathlib.Core.{Path._≡_, Path.refl, Path.sym, Path.ap, Path.ap₂, Path._∙_, Bool.Bool, Bool.true, Bool.false, Bool.not, Bool.cond, Bool.xor, Bool._&&_}
 use Prim.Native.Nat.{ℕ, zero, suc, _+_, _-_, _*_, _/_, _%_, _^_, _≤_, _<_}
 use native.Mathlib.Nat.{mod-lt, mod-eq-of-lt, mod-self, sub-zero, mul-le-mul, mul-le-mul-right, mul-lt-mul-of-pos-left, lt-of-le-of-lt, div-add-mod', div-lt-iff-lt-mul, le-div-iff-mul-le}
 use native.Mathlib.Omega.{arith}
-use lib.Dec.{leb, ltb, eqb}
-use lib.IntN.{ℤ, pos, negsuc, negℤ, _*ℤ_}
-use lib.Pow.{pow-add, pow-pos, pow-mono, shr-lt}
+use lib.{Dec.leb, Dec.ltb, Dec.eqb, IntN.ℤ, IntN.pos, IntN.negsuc, IntN.negℤ, IntN._*ℤ_, Pow.pow-add, Pow.pow-pos, Pow.pow-mono, Pow.shr-lt}
 use borrow.Author.Tests.{eqb-true, eqb-false, eq-eqb, ne-eqb, le-leb, lt-leb, lt-ltb, le-ltb}
-use Rattle.flags.specs.Numbers.{bit, top, topSet, signed, fitsSigned, wrapped, negated}
-use Rattle.flags.proofs.Powers.{top-twice}
-use Rattle.flags.proofs.SignedLaws.{above, below, fits-diff, TopIs, top-is, same-test}
-use Rattle.flags.proofs.SignLaws.{signOf, plain, signed-by, neg-sign, mul-sign, wrapped-sign, plain-lt}
+use Rattle.numbers.specs.Numbers.{bit, top, topSet, signed, fitsSigned, wrapped, negated}
+use Rattle.numbers.proofs.{Powers.top-twice, SignedLaws.above, SignedLaws.below, SignedLaws.fits-diff, SignedLaws.TopIs, SignedLaws.top-is, SignedLaws.same-test}
+use Rattle.numbers.proofs.SignLaws.{signOf, plain, signed-by, neg-sign, mul-sign, wrapped-sign, plain-lt}
 use Rattle.alu.specs.Sum.{adc}
-use Rattle.multiply.specs.Routines.{signSum}
-use Rattle.multiply.specs.Manual.{extension, extends}
+use Rattle.multiply.specs.{Routines.signSum, Manual.extension, Manual.extends}
 use Rattle.multiply.specs.Multiply.{productValue, productOf, halvesSum, carries, negates}
 
 -- ---- IMULCOF's sum

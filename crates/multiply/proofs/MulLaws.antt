@@ -1,27 +1,17 @@
 -- The multiplies over the width n: PREIMUL, CORX, NEGATE and the flag routines together give the product, the flags and the steps of the chart.
 -- Assumes nothing.
-use mathlib.Core.Path.{_≡_, refl, sym, ap, ap₂, _∙_}
-use mathlib.Core.Bool.{Bool, true, false, not, cond, xor}
+use mathlib.Core.{Path._≡_, Path.refl, Path.sym, Path.ap, Path.ap₂, Path._∙_, Bool.Bool, Bool.true, Bool.false, Bool.not, Bool.cond, Bool.xor}
 use Prim.Native.Nat.{ℕ, _+_, _-_, _*_, _/_, _%_, _^_, _≤_, _<_}
-use native.Mathlib.Nat.{mul-comm, div-add-mod'}
-use native.Mathlib.Omega.{arith}
-use lib.Bits.{bitAnd}
-use lib.Count.{ones, ones-le}
-use lib.Dec.{leb, eqb}
-use lib.IntN.{negℤ, natAbs}
+use native.Mathlib.{Nat.mul-comm, Nat.div-add-mod', Omega.arith}
+use lib.{Bits.bitAnd, Count.ones, Count.ones-le, Dec.leb, Dec.eqb, IntN.negℤ, IntN.natAbs}
 use borrow.Author.Tests.{leb-true, leb-false, eq-eqb, ne-eqb, lt-leb}
-use Rattle.flags.specs.Numbers.{top, topSet, signed, magnitude, wrapped, negated}
-use Rattle.flags.specs.Word.{setCO, setCOA}
-use Rattle.flags.specs.Szp.{szp}
-use Rattle.flags.specs.declared.word.Flags.{Flags}
-use Rattle.flags.proofs.Powers.{top-twice, product-lt}
-use Rattle.flags.proofs.Masks.{mask-top, top-masked, top-unmasked}
-use Rattle.flags.proofs.SignedLaws.{TopIs, top-is, same-test}
-use Rattle.flags.proofs.SignLaws.{signOf, plain, signed-by, abs-sign, wrapped-sign, plain-by, xor-true, xor-false}
-use Rattle.alu.specs.Result.{ResultCoa}
-use Rattle.alu.specs.Sum.{adc, sbb, neg}
+use Rattle.numbers.specs.Numbers.{top, topSet, signed, magnitude, wrapped, negated}
+use Rattle.flags.specs.{Word.setCO, Word.setCOA, Szp.szp, declared.word.Flags.Flags}
+use Rattle.numbers.proofs.{Powers.top-twice, Powers.product-lt, Masks.mask-top, Masks.top-masked, Masks.top-unmasked, SignedLaws.TopIs, SignedLaws.top-is, SignedLaws.same-test}
+use Rattle.numbers.proofs.SignLaws.{signOf, plain, signed-by, abs-sign, wrapped-sign, plain-by, xor-true, xor-false}
+use Rattle.alu.specs.{Result.ResultCoa, Sum.adc, Sum.sbb, Sum.neg}
 use Rattle.negate.specs.Negate.{Negate, pair, second, corNegate}
-use Rattle.multiply.specs.Corx.{Halves, corx}
+use Rattle.corx.specs.Corx.{Halves, corx}
 use Rattle.multiply.specs.Routines.{Multiplied, preimul, multiplied, mulcof, signSum, imulcof}
 use Rattle.multiply.specs.Multiply.{productOf, halvesSum, carries, mulFlags, negates, mulSteps, multiply}
 use Rattle.multiply.proofs.CarryLaws.{signed-bits, imulcof-rule}

@@ -1,6 +1,3 @@
-pub mod Corx
-pub mod InPlace
-pub mod ChipWalk
 pub mod Views
 pub mod Routines
 pub mod Multiply

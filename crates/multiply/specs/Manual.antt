@@ -6,7 +6,7 @@
 use mathlib.Core.Bool.{Bool, true, false, not, cond}
 use Prim.Native.Nat.{ℕ, _-_, _/_, _%_, _^_}
 use lib.Dec.{eqb}
-use Rattle.flags.specs.Numbers.{topSet}
+use Rattle.numbers.specs.Numbers.{topSet}
 
 -- n bits that all repeat the lower half's top bit
 abbrev pub extension : ℕ → ℕ → ℕ

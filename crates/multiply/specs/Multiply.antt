@@ -5,7 +5,7 @@ use Prim.Native.Nat.{ℕ, _+_, _*_, _/_, _%_, _^_}
 use lib.Count.{ones}
 use lib.Dec.{eqb}
 use lib.IntN.{ℤ, negℤ, _*ℤ_}
-use Rattle.flags.specs.Numbers.{top, topSet, valued, magnitude, wrapped, fitsSigned}
+use Rattle.numbers.specs.Numbers.{top, topSet, valued, magnitude, wrapped, fitsSigned}
 use Rattle.flags.specs.Word.{setCO, setCOA}
 use Rattle.flags.specs.Szp.{szp}
 use Rattle.flags.specs.declared.word.Flags.{Flags}

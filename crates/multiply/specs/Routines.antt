@@ -3,14 +3,14 @@
 use mathlib.Core.Bool.{Bool, not, cond, xor}
 use Prim.Native.Nat.{ℕ, _+_, _*_, _/_, _%_, _^_}
 use lib.Dec.{eqb}
-use Rattle.flags.specs.Numbers.{topSet, signed, wrapped, negated}
+use Rattle.numbers.specs.Numbers.{topSet, signed, wrapped, negated}
 use Rattle.flags.specs.Word.{setCO, setCOA}
 use Rattle.flags.specs.Szp.{szp}
 use Rattle.flags.specs.declared.word.Flags.{Flags}
 use Rattle.alu.specs.Sum.{adc}
 use Rattle.alu.specs.Result.{ResultCoa}
 use Rattle.negate.specs.Negate.{Negate}
-use Rattle.multiply.specs.Corx.{Halves, corx}
+use Rattle.corx.specs.Corx.{Halves, corx}
 
 -- what a multiply answers: the product's 2n bits, the flags and the steps
 pub record Multiplied : Type 0 where

@@ -1,20 +1,13 @@
 -- NEGATE over the width n: two halves taken from 0 with a borrow between them are the pair taken from 0.
 -- Assumes nothing.
-use mathlib.Core.Path.{_≡_, refl, sym, ap, ap₂, _∙_}
-use mathlib.Core.Bool.{Bool, true, false, not}
-use Prim.Native.Nat.{ℕ, zero, suc, _+_, _-_, _*_, _/_, _%_, _^_, _≤_, _<_}
-use native.Mathlib.Nat.{add-zero, mod-lt, mod-eq-of-lt, mod-self}
-use native.Mathlib.Omega.{arith}
-use lib.Arith.{digits-div, digits-mod}
-use lib.Bits.{bitAnd}
-use lib.Dec.{ltb}
+use mathlib.Core.{Path._≡_, Path.refl, Path.sym, Path.ap, Path.ap₂, Path._∙_, Bool.Bool, Bool.true, Bool.false, Bool.not}
+use Prim.Native.Nat.{ℕ, zero, suc, _+_, _-_, _*_, _/_, _%_, _^_, _<_}
+use native.Mathlib.{Nat.add-zero, Nat.mod-lt, Nat.mod-eq-of-lt, Nat.mod-self, Omega.arith}
+use lib.{Arith.digits-div, Arith.digits-mod, Bits.bitAnd, Dec.ltb, Pow.pow-add, Pow.pow-pos}
 use borrow.Author.Tests.{ltb-true, ltb-false}
-use lib.Pow.{pow-add, pow-pos}
-use Rattle.flags.specs.Numbers.{bit, top, negated}
-use Rattle.flags.proofs.Masks.{top-masked, top-unmasked}
-use Rattle.flags.proofs.SignLaws.{xor-true, xor-false}
-use Rattle.alu.specs.Result.{ResultCoa}
-use Rattle.alu.specs.Sum.{neg, sbb}
+use Rattle.numbers.specs.Numbers.{bit, top, negated}
+use Rattle.numbers.proofs.{Masks.top-masked, Masks.top-unmasked, SignLaws.xor-true, SignLaws.xor-false}
+use Rattle.alu.specs.{Result.ResultCoa, Sum.neg, Sum.sbb}
 use Rattle.alu.proofs.SumLaws.{neg-result}
 use Rattle.negate.specs.Negate.{Pair, Negate, pair, second, corNegate}
 

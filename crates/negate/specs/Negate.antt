@@ -2,7 +2,7 @@
 -- Assumes nothing.
 use mathlib.Core.Bool.{Bool, true, false, not, cond, xor}
 use Prim.Native.Nat.{ℕ, _+_, _*_, _/_, _%_, _^_}
-use Rattle.flags.specs.Numbers.{topSet, negated}
+use Rattle.numbers.specs.Numbers.{topSet, negated}
 
 -- a pair of halves, tmpa above tmpc, with the flag that says whether a result is to be negated, and the steps so far
 pub record Pair : Type 0 where

@@ -1,29 +1,16 @@
 -- One byte of two digits: ADC and DAA make the decimal sum, SBB and DAS the difference. Assumes nothing.
-use mathlib.Core.Path.{_≡_, refl, sym, ap, _∙_}
-use mathlib.Core.Bool.{Bool, true, false, cond, _||_}
+use mathlib.Core.{Path._≡_, Path.refl, Path.sym, Path.ap, Path._∙_, Bool.Bool, Bool.true, Bool.false, Bool.cond, Bool._||_}
 use Prim.Native.Nat.{ℕ, _+_, _-_, _*_, _/_, _%_, _≤_, _<_}
-use native.Mathlib.Nat.{mod-eq-of-lt}
-use native.Mathlib.Omega.{arith}
+use native.Mathlib.{Nat.mod-eq-of-lt, Omega.arith}
 use lib.Dec.{leb, ltb}
 use borrow.Author.Tests.{leb-true, leb-false, le-leb, lt-leb, ltb-true, ltb-false, lt-ltb}
-use Rattle.flags.specs.Numbers.{bit}
-use Rattle.flags.specs.Szp.{szp}
-use Rattle.flags.specs.declared.word.Flags.{Flags}
-use Rattle.alu.specs.Result.{ResultCoa}
-use Rattle.alu.specs.Sum.{adc, sbb}
-use Rattle.alu.specs.Views.{coa8}
-use Rattle.alu.specs.declared.result.ResultCoa8.{ResultCoa8}
-use Rattle.bcd.specs.Adjust.{adjusts}
-use Rattle.bcd.specs.Decimal.{highAdjusts, distance, decimal, daaOf, dasOf}
-use Rattle.bcd.specs.declared.adjust.Adjusted.{Adjusted}
+use Rattle.numbers.specs.Numbers.{bit}
+use Rattle.flags.specs.{Szp.szp, declared.word.Flags.Flags}
+use Rattle.alu.specs.{Result.ResultCoa, Sum.adc, Sum.sbb, Views.coa8, declared.result.ResultCoa8.ResultCoa8}
+use Rattle.bcd.specs.{Adjust.adjusts, Decimal.highAdjusts, Decimal.distance, Decimal.decimal, Decimal.daaOf, Decimal.dasOf, declared.adjust.Adjusted.Adjusted}
 use Rattle.bcd.proofs.AdjustLaws.{factors}
-use Rattle.packed.specs.Digits.{isPacked, twoDigits, byteOf}
-use Rattle.packed.specs.Sum.{plus, minus}
-use Rattle.packed.specs.Byte.{byteBy, flagsAfter, ofAdjusted}
-use Rattle.packed.specs.declared.byte.Byte.{Byte}
-use Rattle.packed.proofs.DigitLaws.{digits-and}
-use Rattle.packed.proofs.CheckLaws.{added-99, subtracted-99}
-use Rattle.packed.proofs.PartLaws.{carried, borrowed}
+use Rattle.packed.specs.{Digits.isPacked, Digits.twoDigits, Digits.byteOf, Sum.plus, Sum.minus, Byte.byteBy, Byte.flagsAfter, Byte.ofAdjusted, declared.byte.Byte.Byte}
+use Rattle.packed.proofs.{DigitLaws.digits-and, CheckLaws.added-99, CheckLaws.subtracted-99, PartLaws.carried, PartLaws.borrowed}
 use Rattle.packed.proofs.TensLaws.{summed, taken, in-order}
 
 -- the two together

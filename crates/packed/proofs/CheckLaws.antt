@@ -1,15 +1,13 @@
 -- Why DAA's and DAS's check against 9F, where A was set, never shows for decimal digits: what they are handed with A set and C clear is never
 -- 9A to 9F. Where C is set it decides by itself. So a check against 99 alone would do the same here. Assumes nothing.
-use mathlib.Core.Path.{_≡_, refl, sym, ap, _∙_}
-use mathlib.Core.Bool.{Bool, true, false, _||_, or-true}
+use mathlib.Core.{Path._≡_, Path.refl, Path.sym, Path.ap, Path._∙_, Bool.Bool, Bool.true, Bool.false, Bool._||_, Bool.or-true}
 use Prim.Native.Nat.{ℕ, _+_, _%_, _≤_, _<_}
 use native.Mathlib.Omega.{arith}
 use lib.Dec.{leb, ltb}
 use borrow.Author.Tests.{leb-true, leb-false, ltb-true, ltb-false, lt-ltb, le-ltb}
-use Rattle.flags.specs.Numbers.{bit}
-use Rattle.flags.proofs.SignedLaws.{same-test}
-use Rattle.alu.specs.Result.{ResultCoa}
-use Rattle.alu.specs.Sum.{adc, sbb}
+use Rattle.numbers.specs.Numbers.{bit}
+use Rattle.numbers.proofs.SignedLaws.{same-test}
+use Rattle.alu.specs.{Result.ResultCoa, Sum.adc, Sum.sbb}
 use Rattle.bcd.specs.Decimal.{highAdjusts}
 use Rattle.packed.specs.Digits.{isPacked}
 use Rattle.packed.proofs.DigitLaws.{digits-and}

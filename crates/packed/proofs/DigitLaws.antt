@@ -1,17 +1,11 @@
 -- Packed digits and the numbers that they stand for: each gives the other back. Assumes nothing.
-use mathlib.Core.Path.{_≡_, refl, sym, ap, _∙_}
-use mathlib.Core.Bool.{Bool, true, and-eq-true-iff}
-use mathlib.Core.List.{List, [], _∷_, _++_}
+use mathlib.Core.{Path._≡_, Path.refl, Path.sym, Path.ap, Path._∙_, Bool.Bool, Bool.true, Bool.and-eq-true-iff, List.List, List.[], List._∷_, List._++_}
 use Prim.Native.Nat.{ℕ, zero, suc, _+_, _*_, _/_, _%_, _^_, _≤_, _<_}
-use native.Mathlib.Nat.{one-le-pow}
-use native.Mathlib.Omega.{arith}
-use lib.Arith.{mod-mul}
-use lib.Dec.{lit<}
-use lib.Pow.{pow-add}
-use lib.ListN.{length, drop, getD}
+use native.Mathlib.{Nat.one-le-pow, Omega.arith}
+use lib.{Arith.mod-mul, Dec.lit<, Pow.pow-add, ListN.length, ListN.drop, ListN.getD}
 use borrow.Author.Tests.{leb-true, le-leb}
-use Rattle.flags.specs.Numbers.{bit}
-use Rattle.flags.proofs.WordLaws.{bit-le}
+use Rattle.numbers.specs.Numbers.{bit}
+use Rattle.numbers.proofs.BitLaws.{bit-le}
 use Rattle.packed.specs.Digits.{isPacked, allPacked, twoDigits, byteOf, numberOf, bytesOf}
 
 -- both digits of a byte are at most 9

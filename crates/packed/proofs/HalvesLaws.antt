@@ -1,28 +1,17 @@
 -- Bytes made for either carry, and chosen. Assumes nothing.
-use mathlib.Core.Path.{_≡_, refl, sym, ap, _∙_}
-use mathlib.Core.Bool.{Bool, true, false, not}
-use mathlib.Core.List.{List, [], _∷_, _++_, append-assoc}
+use mathlib.Core.{Path._≡_, Path.refl, Path.sym, Path.ap, Path._∙_, Bool.Bool, Bool.true, Bool.false, Bool.not, List.List, List.[], List._∷_, List._++_, List.append-assoc}
 use Prim.Native.Nat.{ℕ, zero, suc, _+_, _-_, _≤_, _<_}
-use native.Mathlib.Nat.{sub-zero}
-use native.Mathlib.Numerals.{add-one}
-use native.Mathlib.Omega.{arith}
+use native.Mathlib.{Nat.sub-zero, Numerals.add-one, Omega.arith}
 use borrow.Author.Tests.{eqb-true, eqb-false}
-use lib.Arith.{lt-of-le-ne}
-use lib.Dec.{eqb}
+use lib.{Arith.lt-of-le-ne, Dec.eqb}
 use lib.ListN.{length, take, drop, getD, set, replicate, take-append-drop, length-set, length-drop, drop-of-length-le}
 use lib.Seq.{drop-cons, take-suc-set, drop-set-lt, getD-set-same, getD-set-other, lt-length-set}
-use Rattle.flags.proofs.WordLaws.{bit-le}
-use Rattle.packed.specs.Sum.{Operation, operationOf}
-use Rattle.packed.specs.Judge.{judged}
-use Rattle.packed.specs.Packed.{Strung, strung, behind, stringBy, left, leftBy, packedBy}
-use Rattle.packed.specs.Byte.{byteBy}
-use Rattle.packed.specs.declared.byte.Byte.{Byte}
+use Rattle.numbers.proofs.BitLaws.{bit-le}
+use Rattle.packed.specs.{Sum.Operation, Sum.operationOf, Judge.judged}
+use Rattle.packed.specs.{Packed.Strung, Packed.strung, Packed.behind, Packed.stringBy, Packed.left, Packed.leftBy, Packed.packedBy, Byte.byteBy, declared.byte.Byte.Byte}
 use Rattle.packed.specs.Halves.{Operands, halfOf, InHalves, WorkSpace, Made, chosen, onto}
-use Rattle.packed.specs.declared.judge.Judged.the-variants.{Admitted}
-use Rattle.packed.specs.declared.string.Outcome.the-variants.{Done}
-use Rattle.packed.proofs.DigitLaws.{all-at, all-drop}
-use Rattle.packed.proofs.PartLaws.{by-parts}
-use Rattle.packed.proofs.StringLaws.{string-nil, string-cons, string-length}
+use Rattle.packed.specs.{declared.judge.Judged.the-variants.Admitted, declared.string.Outcome.the-variants.Done}
+use Rattle.packed.proofs.{DigitLaws.all-at, DigitLaws.all-drop, PartLaws.by-parts, StringLaws.string-nil, StringLaws.string-cons, StringLaws.string-length}
 
 -- what is chosen so far, what is still to be chosen, and what stands behind
 abbrev pub choosing : List ℕ → List ℕ → ℕ → List ℕ → ℕ → ℕ → Strung

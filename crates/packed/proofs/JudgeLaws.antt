@@ -1,22 +1,12 @@
 -- What is refused: both operands looked at byte by byte, the four tests in their order, and what a refusal leaves. Assumes nothing.
-use mathlib.Core.Path.{_≡_, refl, sym}
-use mathlib.Core.Bool.{Bool, true, false, cond, not, _&&_, and-true, and-eq-true-iff}
-use mathlib.Core.List.{List}
+use mathlib.Core.{Path._≡_, Path.refl, Path.sym, Bool.Bool, Bool.true, Bool.false, Bool.cond, Bool.not, Bool._&&_, Bool.and-true, Bool.and-eq-true-iff, List.List}
 use Prim.Native.Nat.{ℕ, suc, _+_, _≤_, _<_}
-use native.Mathlib.Numerals.{add-one}
-use native.Mathlib.Omega.{arith}
-use lib.ListN.{length, drop, getD, drop-of-length-le}
-use lib.Seq.{drop-cons}
-use lib.Dec.{leb, ltb, eqb}
+use native.Mathlib.{Numerals.add-one, Omega.arith}
+use lib.{ListN.length, ListN.drop, ListN.getD, ListN.drop-of-length-le, Seq.drop-cons, Dec.leb, Dec.ltb, Dec.eqb}
 use borrow.Author.Tests.{leb-true, ltb-false, eqb-true, eq-eqb, ne-eqb, lt-ltb, le-ltb}
-use Rattle.flags.specs.Numbers.{between}
-use Rattle.packed.specs.Digits.{isPacked, allPacked}
-use Rattle.packed.specs.Judge.{judged}
-use Rattle.packed.specs.Halves.{Operands}
-use Rattle.packed.specs.Sum.{Operation}
-use Rattle.packed.specs.Packed.{stringBy, left, leftBy, packedBy}
-use Rattle.packed.specs.declared.string.Outcome.the-variants.{Refused as NotDone}
-use Rattle.packed.specs.declared.judge.Refusal.{Refusal}
+use Rattle.numbers.specs.Numbers.{between}
+use Rattle.packed.specs.{Digits.isPacked, Digits.allPacked, Judge.judged, Halves.Operands, Sum.Operation, Packed.stringBy, Packed.left, Packed.leftBy, Packed.packedBy}
+use Rattle.packed.specs.{declared.string.Outcome.the-variants.Refused as NotDone, declared.judge.Refusal.Refusal}
 use Rattle.packed.specs.declared.judge.Refusal.the-variants.{LengthsDiffer, Length, Digit, Room}
 use Rattle.packed.specs.declared.judge.Judged.the-variants.{Admitted, Refused}
 

@@ -1,26 +1,18 @@
 -- What people rely on when they add and subtract packed strings. These are laws of the definitions, for strings of any length. Assumes nothing.
-use mathlib.Core.Path.{_≡_, refl, sym, ap, _∙_}
-use mathlib.Core.Bool.{Bool, true, false, cond, not, and-comm}
-use mathlib.Core.List.{List, [], _∷_, _++_}
+use mathlib.Core.{Path._≡_, Path.refl, Path.sym, Path.ap, Path._∙_, Bool.Bool, Bool.true, Bool.false, Bool.cond, Bool.not, Bool.and-comm, List.List, List.[], List._∷_, List._++_}
 use Prim.Native.Nat.{ℕ, zero, suc, _+_, _-_, _*_, _%_, _^_, _<_}
-use native.Mathlib.Nat.{mod-eq-of-lt}
-use native.Mathlib.Omega.{arith}
-use lib.Dec.{leb, ltb, eqb}
-use lib.ListN.{length, replicate}
+use native.Mathlib.{Nat.mod-eq-of-lt, Omega.arith}
+use lib.{Dec.leb, Dec.ltb, Dec.eqb, ListN.length, ListN.replicate}
 use borrow.Author.Tests.{eqb-true, eqb-false, lt-leb, lt-ltb, le-ltb, le-leb}
-use Rattle.flags.specs.Numbers.{bit, between}
-use Rattle.flags.proofs.Powers.{rest-small, rest-large}
-use Rattle.flags.proofs.WordLaws.{bit-le}
-use Rattle.packed.specs.Digits.{allPacked, numberOf, bytesOf}
-use Rattle.packed.specs.Sum.{Worked, Operation, plus, minus, operationOf}
-use Rattle.packed.specs.Packed.{strung, behind, stringBy, leftBy, packedBy}
-use Rattle.packed.specs.Judge.{judged}
+use Rattle.numbers.specs.Numbers.{bit, between}
+use Rattle.numbers.proofs.{Powers.rest-small, Powers.rest-large, BitLaws.bit-le}
+use Rattle.packed.specs.{Digits.allPacked, Digits.numberOf, Digits.bytesOf, Sum.Worked, Sum.Operation, Sum.plus, Sum.minus, Sum.operationOf}
+use Rattle.packed.specs.{Packed.strung, Packed.behind, Packed.stringBy, Packed.leftBy, Packed.packedBy, Judge.judged}
 use Rattle.packed.specs.declared.judge.Refusal.the-variants.{LengthsDiffer, Length, Digit, Room}
 use Rattle.packed.specs.declared.judge.Judged.the-variants.{Admitted, Refused}
 use Rattle.packed.proofs.JudgeLaws.{differ, refuses}
 use Rattle.packed.proofs.DigitLaws.{some-numbers, number-below, bytes-packed, number-of-bytes, bytes-of-number}
-use Rattle.packed.proofs.PartLaws.{carried, borrowed, by-parts}
-use Rattle.packed.proofs.StringLaws.{string-cut, string-length}
+use Rattle.packed.proofs.{PartLaws.carried, PartLaws.borrowed, PartLaws.by-parts, StringLaws.string-cut, StringLaws.string-length}
 
 abbrev worked : ℕ → Bool → Worked
 worked number carry = record { number = number; carry = carry }

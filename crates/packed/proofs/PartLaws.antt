@@ -1,16 +1,11 @@
 -- A sum and a difference by parts: first the last two digits, then the rest with their carry or borrow. Assumes nothing.
-use mathlib.Core.Path.{_≡_, refl, _∙_}
-use mathlib.Core.Bool.{Bool, true, false}
+use mathlib.Core.{Path._≡_, Path.refl, Path._∙_, Bool.Bool, Bool.true, Bool.false}
 use Prim.Native.Nat.{ℕ, _+_, _-_, _*_, _/_, _%_, _≤_, _<_}
-use native.Mathlib.Nat.{mod-lt}
-use native.Mathlib.Omega.{arith}
-use lib.Arith.{mod-mul}
-use lib.Dec.{leb, ltb, lit<}
+use native.Mathlib.{Nat.mod-lt, Omega.arith}
+use lib.{Arith.mod-mul, Dec.leb, Dec.ltb, Dec.lit<}
 use borrow.Author.Tests.{leb-true, leb-false, le-leb, lt-leb, ltb-true, ltb-false, lt-ltb, le-ltb}
-use Rattle.flags.specs.Numbers.{bit}
-use Rattle.flags.proofs.Powers.{rest-small, rest-large}
-use Rattle.flags.proofs.SignedLaws.{same-test}
-use Rattle.flags.proofs.WordLaws.{bit-le}
+use Rattle.numbers.specs.Numbers.{bit}
+use Rattle.numbers.proofs.{Powers.rest-small, Powers.rest-large, SignedLaws.same-test, BitLaws.bit-le}
 use Rattle.packed.specs.Sum.{Worked, Operation, plus, minus, operationOf}
 
 -- a number of the rest above two digits, and the rest's carry

@@ -1,12 +1,11 @@
 -- Tens and units of a byte, by hexadecimal numbers: what 6 for the units and 60 for the tens make of a sum or difference of bytes.
 -- Assumes nothing.
-use mathlib.Core.Path.{_≡_, refl, sym, ap, _∙_}
-use mathlib.Core.Bool.{Bool, true, false}
+use mathlib.Core.{Path._≡_, Path.refl, Path.sym, Path.ap, Path._∙_, Bool.Bool, Bool.true, Bool.false}
 use Prim.Native.Nat.{ℕ, _+_, _-_, _*_, _/_, _%_, _≤_, _<_}
 use native.Mathlib.Omega.{arith}
 use lib.Dec.{ltb}
 use borrow.Author.Tests.{ltb-true, ltb-false, lt-ltb, le-ltb}
-use Rattle.flags.proofs.SignedLaws.{same-test}
+use Rattle.numbers.proofs.SignedLaws.{same-test}
 use Rattle.packed.specs.Digits.{byteOf}
 
 byte-by : (u v : ℕ) → u ≤ 9 → v ≤ 9 → byteOf (u * 10 + v) ≡ u * 16 + v

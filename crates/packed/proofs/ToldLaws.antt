@@ -1,12 +1,7 @@
 -- What is told of what is left. Assumes nothing.
-use mathlib.Core.Path.{_≡_, _∙_}
-use mathlib.Core.Bool.{Bool}
-use mathlib.Core.List.{List}
+use mathlib.Core.{Path._≡_, Path._∙_, Bool.Bool, List.List}
 use Prim.Native.Nat.{ℕ}
-use Rattle.packed.specs.Sum.{Operation}
-use Rattle.packed.specs.Packed.{left, packedBy}
-use Rattle.packed.specs.Told.{statusOf, carryLeft, told, toldBy}
-use Rattle.packed.specs.declared.string.Outcome.{Outcome}
+use Rattle.packed.specs.{Sum.Operation, Packed.left, Packed.packedBy, Told.statusOf, Told.carryLeft, Told.told, Told.toldBy, declared.string.Outcome.Outcome}
 
 pub tells : (op : Operation) (x y : List ℕ) (c : Bool) (out : List ℕ) (was : ℕ) {outcome : Outcome} {buffer : List ℕ} {status carry : ℕ}
     → left outcome buffer ≡ packedBy op x y c out → status ≡ statusOf outcome → carry ≡ carryLeft outcome was

@@ -5,7 +5,7 @@ use mathlib.Core.List.{List, [], _∷_, _++_}
 use Prim.Native.Nat.{ℕ, zero, suc, _+_, _*_, _≤_, _<_}
 use lib.Dec.{eqb}
 use lib.ListN.{length, getD}
-use Rattle.flags.specs.Numbers.{bit}
+use Rattle.numbers.specs.Numbers.{bit}
 use Rattle.packed.specs.Digits.{allPacked}
 use Rattle.packed.specs.Sum.{Operation}
 use Rattle.packed.specs.Packed.{Strung, strung, behind}

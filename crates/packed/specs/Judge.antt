@@ -4,7 +4,7 @@ use mathlib.Core.List.{List}
 use Prim.Native.Nat.{ℕ}
 use lib.Dec.{ltb, eqb}
 use lib.ListN.{length}
-use Rattle.flags.specs.Numbers.{between}
+use Rattle.numbers.specs.Numbers.{between}
 use Rattle.packed.specs.Digits.{allPacked}
 use Rattle.packed.specs.declared.judge.Refusal.{Refusal}
 use Rattle.packed.specs.declared.judge.Refusal.the-variants.{LengthsDiffer, Length, Digit, Room}

@@ -2,7 +2,7 @@
 use mathlib.Core.Bool.{Bool, true, false}
 use Prim.Native.Nat.{ℕ, _+_, _-_, _%_}
 use lib.Dec.{leb, ltb}
-use Rattle.flags.specs.Numbers.{bit}
+use Rattle.numbers.specs.Numbers.{bit}
 
 -- the number that comes out, and the carry or borrow
 pub record Worked : Type 0 where

@@ -2,7 +2,7 @@
 use mathlib.Core.Bool.{Bool}
 use mathlib.Core.List.{List}
 use Prim.Native.Nat.{ℕ}
-use Rattle.flags.specs.Numbers.{bit}
+use Rattle.numbers.specs.Numbers.{bit}
 use Rattle.packed.specs.Sum.{Operation}
 use Rattle.packed.specs.Judge.{refusalStatus}
 use Rattle.packed.specs.Packed.{packedBy}

@@ -2,7 +2,7 @@
 ghost use mathlib.Core.Path.{_≡_};
 ghost use mathlib.Core.Bool.{_&&_};
 ghost use lib.ListN.{length};
-ghost use Rattle.flags.specs.Numbers.{between};
+ghost use Rattle.numbers.specs.Numbers.{between};
 ghost use Rattle.packed.specs.Digits.{isPacked, allPacked};
 ghost use Rattle.packed.specs.Judge.{judged, refusalStatus};
 

@@ -1,9 +1,8 @@
 -- What holds of the number of each op holds of the one that is chosen. Assumes nothing.
-use mathlib.Core.Path.{_≡_, refl}
-use mathlib.Core.Bool.{Bool, true, false, cond}
+use mathlib.Core.{Path._≡_, Path.refl, Bool.Bool, Bool.true, Bool.false, Bool.cond}
 use Prim.Native.Nat.{ℕ}
 use lib.Dec.{eqb}
-use Rattle.flags.specs.Numbers.{isSet}
+use Rattle.numbers.specs.Numbers.{isSet}
 use Rattle.registers.specs.Over.{byOp}
 
 -- of an 8-bit divide's it may be known from the op and the mode alone

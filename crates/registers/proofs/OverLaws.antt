@@ -1,25 +1,18 @@
 -- An operation over the record, from what its request is answered; AX has room for what it takes. Assumes nothing.
-use mathlib.Core.Path.{_≡_, sym, ap, subst, _∙_}
-use mathlib.Core.Bool.{Bool, true, false, cond}
+use mathlib.Core.{Path._≡_, Path.sym, Path.ap, Path.subst, Path._∙_, Bool.Bool, Bool.true, Bool.false, Bool.cond}
 use Prim.Native.Nat.{ℕ, _+_, _*_, _≤_, _<_}
 use native.Mathlib.Omega.{arith}
 use lib.Dec.{ltb, eqb}
 use borrow.Author.Tests.{eqb-true}
-use Rattle.flags.specs.Numbers.{isSet}
+use Rattle.numbers.specs.Numbers.{isSet}
 use Rattle.flags.specs.Word.{flagsOf}
-use Rattle.request.specs.Operation.{ops, listed, modeOf, operationOf}
-use Rattle.request.specs.Judge.{raw, requestOf, judgedBy, judged}
-use Rattle.request.specs.Limits.{inLimits}
-use Rattle.request.specs.Judge.{Admitted, TooLarge}
-use Rattle.request.specs.declared.decode.Decoded.the-variants.{Operation as Names, WrongMode}
+use Rattle.request.specs.{Operation.ops, Operation.listed, Operation.modeOf, Operation.operationOf, Judge.raw, Judge.requestOf, Judge.judgedBy, Judge.judged, Limits.inLimits}
+use Rattle.request.specs.{Judge.Admitted, Judge.TooLarge, declared.decode.Decoded.the-variants.Operation as Names, declared.decode.Decoded.the-variants.WrongMode}
 use Rattle.request.specs.declared.operation.Operation.the-variants.{Divide}
-use Rattle.answer.specs.Charted.{charted}
-use Rattle.answer.specs.Asked.{ofJudged, asked}
-use Rattle.answer.specs.declared.answer.Answer.{Answer}
+use Rattle.answer.specs.{Charted.charted, Asked.ofJudged, Asked.asked, declared.answer.Answer.Answer}
 use Rattle.answer.proofs.Width.{divided-fits}
 use Rattle.registers.specs.Over.{isOver, readBy, axBy, dxBy, stays, settledOf, settledBy, requestOver, over}
-use Rattle.registers.specs.declared.record.Registers.{Registers}
-use Rattle.registers.specs.declared.record.Settled.{Settled}
+use Rattle.registers.specs.{declared.record.Registers.Registers, declared.record.Settled.Settled}
 use Rattle.registers.proofs.OpLaws.{by-op}
 
 -- an op that does not work on the record

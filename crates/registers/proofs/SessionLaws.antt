@@ -1,19 +1,13 @@
 -- The total is the sum of the steps told since a fresh record, whatever was done in between. It never falls and never passes its end, and a session
 -- cut in two adds up.
 -- Assumes nothing.
-use mathlib.Core.Path.{_≡_, refl}
-use mathlib.Core.Bool.{Bool, true, false, cond}
-use mathlib.Core.List.{List, [], _∷_, _++_}
-use mathlib.Core.Logic.{_⊎_, inl, inr}
+use mathlib.Core.{Path._≡_, Path.refl, Bool.Bool, Bool.true, Bool.false, Bool.cond, List.List, List.[], List._∷_, List._++_, Logic._⊎_, Logic.inl, Logic.inr}
 use Prim.Native.Nat.{ℕ, _+_, _≤_}
 use native.Mathlib.Omega.{arith}
-use Rattle.flags.specs.Numbers.{between}
-use Rattle.answer.specs.Asked.{asked}
-use Rattle.answer.specs.declared.answer.Answer.{Answer}
+use Rattle.answer.specs.{Asked.asked, declared.answer.Answer.Answer}
 use Rattle.registers.specs.Over.{isOver, Counted, counted, settledOf, settledBy, requestOver, stays, over, registersOf}
 use Rattle.registers.specs.Session.{Fresh, Event, operation, store, after, stepsOf, afterAll, stepsOfAll}
-use Rattle.registers.specs.declared.record.Registers.{Registers}
-use Rattle.registers.specs.declared.record.Settled.{Settled}
+use Rattle.registers.specs.{declared.record.Registers.Registers, declared.record.Settled.Settled}
 use Rattle.registers.proofs.SettleLaws.{count-either, settled-counted}
 
 -- ---- one thing

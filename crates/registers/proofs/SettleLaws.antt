@@ -1,17 +1,14 @@
 -- What is settled, case by case. Assumes nothing.
-use mathlib.Core.Path.{_≡_, refl, sym}
-use mathlib.Core.Bool.{Bool, true, false, cond}
-use mathlib.Core.Logic.{_⊎_, inl, inr}
+use mathlib.Core.{Path._≡_, Path.refl, Path.sym, Bool.Bool, Bool.true, Bool.false, Bool.cond, Logic._⊎_, Logic.inl, Logic.inr}
 use Prim.Native.Nat.{ℕ, _+_, _≤_, _<_}
 use native.Mathlib.Omega.{arith}
 use lib.Dec.{leb, ltb, eqb}
 use borrow.Author.Tests.{ltb-true, ltb-false, leb-true, lt-ltb, le-ltb, eq-eqb, ne-eqb}
-use Rattle.flags.specs.Numbers.{between}
+use Rattle.numbers.specs.Numbers.{between}
 use Rattle.answer.specs.declared.answer.Answer.{Answer}
-use Rattle.answer.proofs.Rows.{both}
+use Rattle.numbers.proofs.BoolLaws.{both}
 use Rattle.registers.specs.Over.{Counted, counted, countedOf, settledAs, registersOf, leaving, settledOf, stays}
-use Rattle.registers.specs.declared.record.Registers.{Registers}
-use Rattle.registers.specs.declared.record.Settled.{Settled}
+use Rattle.registers.specs.{declared.record.Registers.Registers, declared.record.Settled.Settled}
 
 -- ---- what is counted
 

@@ -1,24 +1,18 @@
 -- Which status an op over the record is given, and that X is never too large. Assumes nothing.
-use mathlib.Core.Path.{_≡_, refl, sym, ap, subst, _∙_}
-use mathlib.Core.Bool.{Bool, true, false, not, cond, _||_}
-use mathlib.Core.List.{[], _∷_}
-use mathlib.Core.Logic.{_↔_}
+use mathlib.Core.{Path._≡_, Path.refl, Path.sym, Path.ap, Path.subst, Path._∙_, Bool.Bool, Bool.true, Bool.false, Bool.not, Bool.cond, Bool._||_, List.[], List._∷_, Logic._↔_}
 use Prim.Native.Nat.{ℕ, _+_, _<_, _^_}
 use native.Mathlib.Omega.{arith}
 use lib.Dec.{leb, ltb, eqb}
 use borrow.Author.Tests.{ltb-true, ltb-false, leb-true, eqb-true, eqb-false}
-use Rattle.flags.specs.Numbers.{between, isSet}
+use Rattle.numbers.specs.{Numbers.between, Numbers.isSet, Rows.Given, Rows.OneOf}
 use Rattle.bcd.specs.Adjust.{alOf}
 use Rattle.divide.specs.declared.div.Refusal.the-variants.{ZeroDivisor, TooWide, SignRange}
-use Rattle.answer.specs.Asked.{Raw, asked}
-use Rattle.answer.specs.Table.{Given, OneOf, isMulDiv, isAdjust, unlisted, wrongMode, xBits, tooLarge, refusedFor}
+use Rattle.answer.specs.{Asked.Raw, Asked.asked, Table.isMulDiv, Table.isAdjust, Table.unlisted, Table.wrongMode, Table.xBits, Table.tooLarge, Table.refusedFor}
 use Rattle.answer.specs.declared.answer.Answer.{Answer}
-use Rattle.answer.proofs.Rows.{both, firstOf, first-given, first-one-of}
+use Rattle.numbers.proofs.{BoolLaws.both, RowLaws.firstOf, RowLaws.first-given, RowLaws.first-one-of}
 use Rattle.answer.proofs.Table.{by-table}
-use Rattle.registers.specs.Over.{isOver, dxAx, readBy, countedOf, settledOf, settledBy, requestOver, stays, over}
-use Rattle.registers.specs.Table.{overRows}
-use Rattle.registers.specs.declared.record.Registers.{Registers}
-use Rattle.registers.specs.declared.record.Settled.{Settled}
+use Rattle.registers.specs.{Over.isOver, Over.dxAx, Over.readBy, Over.countedOf, Over.settledOf, Over.settledBy, Over.requestOver, Over.stays, Over.over, Table.overRows}
+use Rattle.registers.specs.{declared.record.Registers.Registers, declared.record.Settled.Settled}
 use Rattle.registers.proofs.SettleLaws.{count-not-done, count-past, count-stored, settled-counted}
 
 -- an op over the record is listed

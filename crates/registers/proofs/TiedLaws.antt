@@ -1,29 +1,19 @@
 -- An operation over the record and the request that it is: one law ties what is told and left to the answer. Besides: what is left where nothing
 -- is done, demand 1 over the record, and the steps told. Assumes nothing.
-use mathlib.Core.Path.{_≡_, refl, sym, ap, subst, _∙_}
-use mathlib.Core.Bool.{Bool, true, false, cond, true≢false}
-use mathlib.Core.List.{[], _∷_}
+use mathlib.Core.{Path._≡_, Path.refl, Path.sym, Path.ap, Path.subst, Path._∙_, Bool.Bool, Bool.true, Bool.false, Bool.cond, Bool.true≢false, List.[], List._∷_}
 use mathlib.Core.Logic.{_⊎_, inl, inr, _↔_}
 use Prim.Native.Nat.{ℕ, _+_, _≤_, _<_}
 use native.Mathlib.Omega.{arith}
 use lib.Dec.{ltb, eqb}
 use borrow.Author.Tests.{ltb-true, ltb-false, le-leb, lt-leb, eqb-true, eqb-false}
-use Rattle.flags.specs.Numbers.{between}
+use Rattle.numbers.specs.{Numbers.between, Rows.OneOf}
 use Rattle.divide.specs.declared.div.Refusal.{Refusal}
 use Rattle.divide.specs.declared.div.Refusal.the-variants.{ZeroDivisor, TooWide, SignRange}
-use Rattle.answer.specs.Charted.{refusalStatus}
-use Rattle.answer.specs.Asked.{Raw, asked}
-use Rattle.answer.specs.Table.{OneOf}
-use Rattle.answer.specs.Refused.{RefusedDivide, refusal}
-use Rattle.answer.specs.declared.answer.Answer.{Answer}
-use Rattle.answer.proofs.Table.{statuses, no-other, rest-zeros}
-use Rattle.answer.proofs.Demand1.{demand-1}
-use Rattle.registers.specs.Over.{isOver, axBy, dxBy, stays, settledBy, requestOver, over}
-use Rattle.registers.specs.Tied.{Tied}
-use Rattle.registers.specs.declared.record.Registers.{Registers}
+use Rattle.answer.specs.{Charted.refusalStatus, Asked.Raw, Asked.asked, Refused.RefusedDivide, Refused.refusal, declared.answer.Answer.Answer}
+use Rattle.answer.proofs.{Table.statuses, Table.no-other, Table.rest-zeros, Demand1.demand-1}
+use Rattle.registers.specs.{Over.isOver, Over.axBy, Over.dxBy, Over.stays, Over.settledBy, Over.requestOver, Over.over, Tied.Tied, declared.record.Registers.Registers}
 use Rattle.registers.specs.declared.record.Settled.{Settled}
-use Rattle.registers.proofs.OverLaws.{not-over}
-use Rattle.registers.proofs.TableLaws.{listed-over, over-statuses}
+use Rattle.registers.proofs.{OverLaws.not-over, TableLaws.listed-over, TableLaws.over-statuses}
 use Rattle.registers.proofs.SettleLaws.{stored, not-done, past, done, refused}
 
 -- ---- statuses as numbers

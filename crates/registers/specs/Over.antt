@@ -3,7 +3,7 @@
 use mathlib.Core.Bool.{Bool, cond, _||_}
 use Prim.Native.Nat.{ℕ, _+_, _*_}
 use lib.Dec.{ltb, eqb}
-use Rattle.flags.specs.Numbers.{between, isSet}
+use Rattle.numbers.specs.Numbers.{between, isSet}
 use Rattle.bcd.specs.Adjust.{alOf}
 use Rattle.answer.specs.Asked.{Raw, raw, asked}
 use Rattle.answer.specs.Table.{isMulDiv, isAdjust}

@@ -2,7 +2,7 @@
 use mathlib.Core.Path.{_≡_}
 use mathlib.Core.List.{[], _∷_}
 use Prim.Native.Nat.{ℕ, _+_}
-use Rattle.answer.specs.Table.{OneOf}
+use Rattle.numbers.specs.Rows.{OneOf}
 use Rattle.answer.specs.declared.answer.Answer.{Answer}
 use Rattle.registers.specs.Over.{axBy, dxBy, registersOf}
 use Rattle.registers.specs.declared.record.Registers.{Registers}

@@ -1,20 +1,12 @@
 -- The records of a text one by one, and block by block. Assumes nothing.
-use mathlib.Core.Path.{_≡_, refl, sym, ap, _∙_}
-use mathlib.Core.Bool.{Bool, true, false, cond}
-use mathlib.Core.List.{List, [], _∷_, _++_}
+use mathlib.Core.{Path._≡_, Path.refl, Path.ap, Path._∙_, Bool.Bool, Bool.true, Bool.false, Bool.cond, List.List, List.[], List._∷_, List._++_}
 use Prim.Native.Nat.{ℕ, suc, _+_, _-_, _%_, _^_, _<_, _≤_}
-use native.Mathlib.Nat.{add-zero, zero-add}
-use native.Mathlib.Omega.{arith}
-use lib.Dec.{eqb}
-use lib.ListN.{length, take, drop, length-append, length-drop}
-use lib.Seq.{length-take-le, drop-drop}
+use native.Mathlib.{Nat.add-zero, Nat.zero-add, Omega.arith}
+use lib.{Dec.eqb, ListN.length, ListN.take, ListN.drop, ListN.length-append, ListN.length-drop, Seq.length-take-le, Seq.drop-drop}
 use borrow.Author.Tests.{lt-ltb, le-ltb}
 use Rattle.text.specs.Lines.{lineLength, lineEnd, takes, withByte, bytesIn}
-use Rattle.text.proofs.LineLaws.{end-within}
-use Rattle.text.proofs.NextLine.{no-line, first-line}
-use Rattle.replay.specs.Record.{right}
-use Rattle.replay.specs.Counted.{recordsIn, wrong, countOn}
-use Rattle.replay.specs.declared.Replayed.{Replayed}
+use Rattle.text.proofs.{LineLaws.end-within, NextLine.no-line, NextLine.first-line}
+use Rattle.replay.specs.{Record.right, Counted.recordsIn, Counted.wrong, Counted.countOn, declared.Replayed.Replayed}
 
 -- a line feed: one record, and then those behind it
 pub first-record : (t : List ℕ) → lineLength t < length t → recordsIn t ≡ take (lineLength t) t ∷ recordsIn (drop (suc (lineLength t)) t)

@@ -1,32 +1,22 @@
 -- What an op, a mode and the limits tell, as the code tests them, is what the definitions say. Assumes nothing.
 use mathlib.Core.Path.{_≡_, refl, sym, ap, ap₂, subst, _∙_}
-use mathlib.Core.Bool.{Bool, true, false, not, cond, _&&_, _||_, false≢true}
-use mathlib.Core.List.{List, [], _∷_}
+use mathlib.Core.{Bool.Bool, Bool.true, Bool.false, Bool.not, Bool.cond, Bool._&&_, Bool._||_, Bool.false≢true, List.List, List.[], List._∷_}
 use Prim.Native.Nat.{ℕ, zero, suc, _+_, _-_, _*_, _/_, _%_, _≤_, _<_}
 use native.Mathlib.Omega.{arith}
-use lib.Dec.{leb, ltb, eqb}
+use lib.Dec.{leb, eqb}
 use borrow.Author.Tests.{ne-eqb, lt-ltb, leb-true, leb-false}
+use Rattle.numbers.proofs.BoolLaws.{both, or-right}
 use Rattle.flags.specs.Word.{isFlags}
 use Rattle.request.specs.Operation.{Listed, AluOp, Multiply, Divide, DecimalOp, Unlisted, ops, lookup, listed, checked, operationOf, aluOnly, aluAt}
-use Rattle.request.specs.Limits.{xMost, yMost, fitsIn, inLimits, InRange}
-use Rattle.request.specs.Judge.{requestOf, judgedBy, judged, Judged, Admitted, TooLarge}
-use Rattle.request.specs.declared.raw.Raw.{Raw}
-use Rattle.request.specs.declared.operation.Width.{Width}
-use Rattle.request.specs.declared.operation.Alu.{Alu}
-use Rattle.request.specs.declared.operation.Operation.{Operation}
+use Rattle.request.specs.Limits.{xMost, yMost, inLimits, InRange}
+use Rattle.request.specs.{Judge.requestOf, Judge.judgedBy, Judge.judged, Judge.Judged, Judge.Admitted, Judge.TooLarge, declared.raw.Raw.Raw, declared.operation.Width.Width}
+use Rattle.request.specs.{declared.operation.Alu.Alu, declared.operation.Operation.Operation}
 use Rattle.request.specs.declared.operation.Operation.the-variants.{Alu as OfAlu, Multiply as OfMultiply, Divide as OfDivide, Decimal as OfDecimal}
 use Rattle.request.specs.declared.decode.Decoded.{Decoded}
 use Rattle.request.specs.declared.decode.Decoded.the-variants.{Operation as Names, Unlisted as NotListed, WrongMode}
-use Rattle.request.specs.declared.decode.AluAt.{AluAt}
-use Rattle.request.specs.declared.decode.AluAt.the-variants.{Named, Nothing}
-use Rattle.request.specs.declared.raw.Request.{Request}
+use Rattle.request.specs.{declared.decode.AluAt.AluAt, declared.decode.AluAt.the-variants.Named, declared.decode.AluAt.the-variants.Nothing, declared.raw.Request.Request}
 
 -- ---- tests of every number below another, by computation
-
-both : (a b : Bool) → (a && b) ≡ true → (a ≡ true) × (b ≡ true)
-both true true e = (refl, refl)
-both true false e = absurd (false≢true e)
-both false b e = absurd (false≢true e)
 
 abbrev pub below : (ℕ → Bool) → ℕ → Bool
 below test zero = true
@@ -154,10 +144,6 @@ alu-computed = refl
 other-computed : below otherTest 0xE8 ≡ true
 unfolding aluAt operationOf listed ops
 other-computed = refl
-
-or-right : (a b : Bool) → a ≡ false → (a || b) ≡ true → b ≡ true
-or-right true b e h = absurd (false≢true (sym e))
-or-right false b e h = h
 
 -- a key that is an arm's is what the arm says, as `aluAt` computes
 pub at-alu : {key k : ℕ} → key ≡ k → aluAt k ≡ aluAt key

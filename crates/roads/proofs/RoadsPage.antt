@@ -1,27 +1,18 @@
 -- For a tester: what can be relied on of the roads of a divide given as numbers, and what they tell of the answer to its request. Assumes nothing.
-use mathlib.Core.Path.{_≡_, refl, sym, ap, subst, _∙_}
-use mathlib.Core.Bool.{Bool, true, false, cond, true≢false}
-use mathlib.Core.List.{List, [], _∷_}
+use mathlib.Core.{Path._≡_, Path.refl, Path.sym, Path.ap, Path.subst, Path._∙_, Bool.Bool, Bool.true, Bool.false, Bool.cond, Bool.true≢false, List.List, List.[], List._∷_}
 use mathlib.Core.Logic.{_↔_}
 use Prim.Native.Nat.{ℕ, _+_, _-_, _*_, _%_, _^_, _≤_}
 use native.Mathlib.Omega.{arith}
-use lib.Bits.{bitAnd}
-use lib.Count.{ones}
-use lib.Dec.{eqb}
-use lib.IntN.{natAbs}
+use lib.{Bits.bitAnd, Count.ones, Dec.eqb, IntN.natAbs}
 use borrow.Author.Tests.{ne-eqb}
-use Rattle.flags.specs.Numbers.{isSet, magnitude}
+use Rattle.numbers.specs.Numbers.{isSet, magnitude}
 use Rattle.flags.specs.Word.{flagsOf}
-use Rattle.flags.proofs.Powers.{top-twice}
+use Rattle.numbers.proofs.Powers.{top-twice}
 use Rattle.cord.specs.Cord.{Roads, noRoads}
-use Rattle.divide.specs.Divide.{quotientOf, resultsOf, divide}
-use Rattle.divide.specs.StepLog.{otherSteps}
+use Rattle.divide.specs.{Divide.quotientOf, Divide.resultsOf, Divide.divide, StepLog.otherSteps}
 use Rattle.divide.proofs.Returned.{returned-magnitude}
 use Rattle.divide.proofs.RoadsOfDivides.{roads-alike, roads-add-up, steps-by-roads, none-shifted-out, signed-none-out}
-use Rattle.answer.specs.Charted.{ofDivided}
-use Rattle.answer.specs.Asked.{raw, asked, statusOf}
-use Rattle.answer.specs.Table.{widthBy}
-use Rattle.answer.specs.declared.answer.Answer.{Answer}
+use Rattle.answer.specs.{Charted.ofDivided, Asked.raw, Asked.asked, Asked.statusOf, Table.widthBy, declared.answer.Answer.Answer}
 use Rattle.answer.proofs.DivideRows.{SixStatuses, six, rep-width, rep-sign, rep-rows, some-width, DoneDivide, divide-done, divide-by-rows, divide-admitted}
 use Rattle.roads.specs.Told.{Tallied, tallied, listed, divideBy, roadsBy, roadsTold}
 
@@ -63,10 +54,6 @@ module _ (mode f x y u v : ℕ) (hf : bitAnd f 0x08D5 ≡ f) (told : roadsTold m
 
   a : DoneDivide mode x y
   a = divide-done mode x y (sym (divide-by-rows mode x y 0 refl) ∙ zero-status)
-
-  -- with any flags the divide of the same request is done
-  pub done-status : statusOf 0x11 mode f x y ≡ 0
-  done-status = divide-by-rows mode x y f hf ∙ sym (divide-by-rows mode x y 0 refl) ∙ zero-status
 
   pair : divideBy mode x y .roads .shiftedOut ∷ divideBy mode x y .roads .noBorrow ∷ [] ≡ u ∷ v ∷ []
   unfolding roadsTold

@@ -1,21 +1,15 @@
 -- The table's rows of a divide, and what they make of its roads. Assumes nothing.
-use mathlib.Core.Path.{_≡_, refl, sym, ap, _∙_}
-use mathlib.Core.Bool.{Bool, true, false, not, cond, _||_, true≢false}
-use mathlib.Core.List.{[], _∷_}
+use mathlib.Core.{Path._≡_, Path.refl, Path.sym, Path.ap, Path._∙_, Bool.Bool, Bool.true, Bool.false, Bool.not, Bool.cond, Bool._||_, List.[], List._∷_}
 use Prim.Native.Nat.{ℕ, _+_, _^_, _≤_, _<_}
 use native.Mathlib.Omega.{arith}
-use lib.Bits.{bitAnd}
-use lib.Dec.{ltb, eqb}
+use lib.{Bits.bitAnd, Dec.ltb, Dec.eqb}
 use borrow.Author.Tests.{ltb-false}
-use Rattle.flags.specs.Numbers.{isSet}
-use Rattle.flags.specs.Word.{flagsOf}
-use Rattle.flags.specs.declared.word.Flags.{Flags}
-use Rattle.flags.proofs.Masks.{mask-bit, set-masked, set-unmasked}
+use Rattle.numbers.proofs.{BoolLaws.neither, Masks.mask-bit, Masks.set-masked, Masks.set-unmasked}
+use Rattle.numbers.specs.Numbers.{isSet}
+use Rattle.flags.specs.{Word.flagsOf, declared.word.Flags.Flags}
 use Rattle.cord.specs.Cord.{noRoads}
 use Rattle.divide.specs.Divide.{accepts, refusalOf, divide}
-use Rattle.answer.specs.Charted.{refusalStatus, ofDivided}
-use Rattle.answer.specs.Table.{widthBy}
-use Rattle.answer.specs.declared.answer.Answer.{Answer}
+use Rattle.answer.specs.{Charted.refusalStatus, Charted.ofDivided, Table.widthBy, declared.answer.Answer.Answer}
 use Rattle.answer.proofs.DivideRows.{large, divide-mode, divide-large, divide-admitted}
 use Rattle.roads.specs.Told.{tallied, listed, divideBy, toldOf, toldBy, roadsBy, roadsTold}
 
@@ -62,10 +56,6 @@ module _ (mode x y : ℕ) where
         ∙ rep-told (widthBy mode) (isSet 1 mode) (isSet 2 mode) x y (flagsOf 0)
 
 -- ---- how the code tells it, by the width that the mode names
-
-neither : (a b : Bool) → a || b ≡ false → (a ≡ false) × (b ≡ false)
-neither true b e = absurd (true≢false e)
-neither false b e = (refl, e)
 
 -- operands within the limits fit eight bits
 pub byte-fits : {x y : ℕ} → ltb 0xFFFF x || ltb 0xFF y ≡ false → (x < 2 ^ 16) × (y < 2 ^ 8)

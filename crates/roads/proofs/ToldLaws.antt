@@ -1,24 +1,16 @@
 -- What is told of a divide at the width n: the status of its refusal with no roads, or the roads of CORD's walk over the magnitudes. Assumes
 -- nothing.
-use mathlib.Core.Path.{_≡_, refl, sym, ap, subst, _∙_}
-use mathlib.Core.Bool.{Bool, true, false, not, cond, _||_, false≢true}
-use mathlib.Core.Logic.{_⊎_, inl, inr}
-use mathlib.Core.List.{[], _∷_}
+use mathlib.Core.{Path._≡_, Path.refl, Path.sym, Path.ap, Path.subst, Path._∙_, Bool.Bool, Bool.true, Bool.false, Bool.not, Bool.cond, Bool._||_, Bool.false≢true}
+use mathlib.Core.{Logic._⊎_, Logic.inl, Logic.inr, List.[], List._∷_}
 use Prim.Native.Nat.{ℕ, _+_, _*_, _/_, _%_, _^_, _≤_, _<_}
-use native.Mathlib.Nat.{div-add-mod'}
-use native.Mathlib.Omega.{arith}
+use native.Mathlib.{Nat.div-add-mod', Omega.arith}
 use borrow.Author.Tests.{ltb-true, ltb-false, le-leb, lt-leb, eq-eqb, ne-eqb}
 use lib.Dec.{leb, ltb}
-use lib.Pow.{pow-pos}
-use Rattle.flags.specs.Numbers.{magnitude}
-use Rattle.flags.proofs.Powers.{top-twice}
-use Rattle.flags.proofs.SignLaws.{plain-lt, magnitude-plain}
 use Rattle.cord.specs.Cord.{CordAnswer, cord}
 use Rattle.divide.specs.Divide.{accepts, applies, refusalOf, dividendOf, divisorOf, atFirst, acceptedRoads, divide}
 use Rattle.divide.specs.declared.div.Refusal.{Refusal}
 use Rattle.divide.specs.declared.div.Refusal.the-variants.{ZeroDivisor, TooWide, SignRange}
-use Rattle.divide.proofs.DivLaws.{compared-first, first-refusal, later-refusal, known}
-use Rattle.divide.proofs.Refusals.{three-cover}
+use Rattle.divide.proofs.{DivLaws.compared-first, DivLaws.first-refusal, DivLaws.later-refusal, DivLaws.known, Refusals.three-cover}
 use Rattle.answer.specs.Charted.{refusalStatus}
 use Rattle.roads.specs.Told.{Tallied, tallied, listed, toldBy}
 
@@ -126,11 +118,6 @@ either-width (inr e) = (omega arith, omega arith)
 -- numbers of the width m, where that is n
 pub of-width : {m n : ℕ} → m ≡ n → {x y : ℕ} → x < 2 ^ (m + m) → y < 2 ^ m → (x < 2 ^ (n + n)) × (y < 2 ^ n)
 of-width e {x} {y} hx hy = (subst (λ (k : ℕ). x < 2 ^ (k + k)) e hx, subst (λ (k : ℕ). y < 2 ^ k) e hy)
-
--- a magnitude has the width of its number
-pub magnitude-lt : (n : ℕ) (s : Bool) (x : ℕ) → 0 < n → x < 2 ^ n → {m : ℕ} → m ≡ magnitude s n x → m < 2 ^ n
-magnitude-lt n true x hn h e = omega (arith, e, magnitude-plain n x h, plain-lt n x hn h, top-twice n hn, pow-pos n)
-magnitude-lt n false x hn h e = omega (arith, e)
 
 -- CORD's answer on the two halves of a number has its roads
 pub walked : (n whole tmpb : ℕ) {a : CordAnswer} → a ≡ cord n tmpb (whole / 2 ^ n * 2 ^ n + whole % 2 ^ n) 0 → {m : ℕ} → m ≡ n

@@ -3,7 +3,7 @@ use mathlib.Core.Bool.{Bool, false, cond}
 use mathlib.Core.List.{List, [], _∷_}
 use Prim.Native.Nat.{ℕ}
 use lib.Dec.{eqb}
-use Rattle.flags.specs.Numbers.{isSet}
+use Rattle.numbers.specs.Numbers.{isSet}
 use Rattle.flags.specs.Word.{flagsOf}
 use Rattle.cord.specs.Cord.{Roads, noRoads}
 use Rattle.divide.specs.Divide.{Divided, divide}

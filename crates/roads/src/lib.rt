@@ -7,7 +7,7 @@ ghost use mathlib.Core.Path.{_≡_};
 ghost use mathlib.Core.Logic.{_⊎_};
 ghost use mathlib.Core.List.{[], _∷_};
 ghost use Prim.Native.Nat.{_+_, _^_, _≤_, _<_};
-ghost use Rattle.flags.specs.Numbers.{magnitude};
+ghost use Rattle.numbers.specs.Numbers.{magnitude};
 ghost use Rattle.cord.specs.Cord.{cord};
 ghost use Rattle.roads.specs.Told.{tallied, listed, toldBy, roadsTold};
 use flags::width::Width8;

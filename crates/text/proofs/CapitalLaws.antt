@@ -1,18 +1,10 @@
 -- The eight digits of two numbers as capitals, in lanes of 8 bits. Assumes nothing.
-use mathlib.Core.Path.{_≡_, refl, sym, ap, ap₂, subst, _∙_}
-use mathlib.Core.Bool.{Bool, true, false, cond}
-use mathlib.Core.List.{List, [], _∷_, _++_}
+use mathlib.Core.{Path._≡_, Path.refl, Path.sym, Path.ap, Path.ap₂, Path.subst, Path._∙_, Bool.Bool, Bool.true, Bool.false, Bool.cond, List.List, List.[], List._∷_, List._++_}
 use Prim.Native.Nat.{ℕ, suc, _+_, _*_, _/_, _%_, _^_, _<_}
-use native.Mathlib.Nat.{mul-div-cancel, div-one}
-use native.Mathlib.Omega.{arith}
-use lib.Bits.{bitAnd, and-high}
-use lib.Dec.{ltb, lit<}
-use lib.ListN.{getD, set}
-use lib.Seq.{sets}
+use native.Mathlib.{Nat.mul-div-cancel, Nat.div-one, Omega.arith}
+use lib.{Bits.bitAnd, Bits.and-high, Dec.ltb, Dec.lit<, ListN.getD, ListN.set, Seq.sets}
 use borrow.Author.Tests.{ltb-true, ltb-false}
-use Rattle.text.specs.Digits.{capitalOf}
-use Rattle.text.specs.Lanes.{lanes}
-use Rattle.text.specs.Written.{four}
+use Rattle.text.specs.{Digits.capitalOf, Lanes.lanes, Written.four}
 use Rattle.text.proofs.LaneLaws.{each, Below, split, upperHalf, lowerHalf, sums, times, agree, masked, split-by-masks, split-below, each-all, lane-at}
 
 -- 6 more than a digit above 9 has bit 4 set, and its letter is 7 further on

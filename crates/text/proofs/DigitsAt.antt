@@ -1,20 +1,15 @@
 -- Digits at a place of a text: all of them one byte at a time, a part of them, the number of two and of four, and that none is a line feed.
 -- Assumes nothing.
 use mathlib.Core.Path.{_≡_, refl, sym, ap, _∙_}
-use mathlib.Core.Bool.{Bool, true, false, cond, _&&_, _||_, and-true, and-assoc, false≢true}
-use mathlib.Core.List.{List, [], _∷_, _++_}
+use mathlib.Core.{Bool.Bool, Bool.true, Bool.false, Bool.cond, Bool._&&_, Bool._||_, Bool.and-true, Bool.and-assoc, Bool.false≢true, List.List, List.[], List._∷_, List._++_}
 use Prim.Native.Nat.{ℕ, zero, suc, _+_, _-_, _*_, _/_, _%_, _^_, _<_, _≤_}
-use native.Mathlib.Nat.{mul-assoc, add-mul, mul-le-mul-right, pow-le-pow-right, pow-suc, lt-of-lt-of-le}
-use native.Mathlib.Numerals.{add-one}
-use native.Mathlib.Omega.{arith}
-use lib.Pow.{pow-add}
-use lib.ListN.{length, getD, take, drop, length-append, length-take, length-drop}
+use native.Mathlib.{Nat.mul-assoc, Nat.add-mul, Nat.mul-le-mul-right, Nat.pow-le-pow-right, Nat.pow-suc, Nat.lt-of-lt-of-le, Numerals.add-one, Omega.arith}
+use lib.{Pow.pow-add, ListN.length, ListN.getD, ListN.take, ListN.drop, ListN.length-append, ListN.length-take, ListN.length-drop}
 use lib.Seq.{take-take, take-suc, drop-cons, getD-drop, drop-drop, take-add, length-take-le}
-use Rattle.flags.specs.Numbers.{between}
-use Rattle.text.specs.Digits.{digitOf}
-use Rattle.text.specs.Plain.{isDigit, allDigits, numberOf, fieldAt}
-use Rattle.text.proofs.FoundLaws.{both, no-feed}
-use Rattle.text.proofs.Plain.{within, digit-below, is-below}
+use Rattle.numbers.specs.Numbers.{between}
+use Rattle.text.specs.{Digits.digitOf, Plain.isDigit, Plain.allDigits, Plain.numberOf, Plain.fieldAt}
+use Rattle.numbers.proofs.BoolLaws.{both}
+use Rattle.text.proofs.{FoundLaws.no-feed, Plain.within, Plain.digit-below, Plain.is-below}
 
 -- ---- one digit
 

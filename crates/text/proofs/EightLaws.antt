@@ -1,19 +1,12 @@
 -- Eight digits read at once, and the twenty of a request with them. Assumes nothing.
-use mathlib.Core.Path.{_≡_, refl, sym, ap, ap₂, _∙_}
-use mathlib.Core.Bool.{Bool, true, false, _&&_, and-true, and-false}
+use mathlib.Core.{Path._≡_, Path.refl, Path.sym, Path.ap, Path.ap₂, Path._∙_, Bool.Bool, Bool.true, Bool.false, Bool._&&_, Bool.and-true, Bool.and-false}
 use mathlib.Core.List.{List, [], _∷_}
 use Prim.Native.Nat.{ℕ, suc, _+_, _*_, _/_, _%_, _^_, _<_, _≤_}
-use native.Mathlib.Nat.{mul-one, mul-div-cancel}
-use native.Mathlib.Omega.{arith}
-use lib.Bits.{bitAnd, and-mask, and-high}
-use lib.Dec.{ltb, lit<, lit≤}
-use lib.ListN.{length, getD, take, drop}
+use native.Mathlib.{Nat.mul-one, Nat.mul-div-cancel, Omega.arith}
+use lib.{Bits.bitAnd, Bits.and-mask, Bits.and-high, Dec.ltb, Dec.lit<, Dec.lit≤, ListN.length, ListN.getD, ListN.take, ListN.drop}
 use lib.Seq.{drop-cons, drop-drop, take-add, take-all}
 use borrow.Author.Tests.{lt-ltb, le-ltb, eq-eqb}
-use Rattle.text.specs.Digits.{digitOf}
-use Rattle.text.specs.Fields.{fourAt, fieldsAt, readOf}
-use Rattle.text.specs.Lanes.{lanes}
-use Rattle.text.specs.Plain.{isDigit, allDigits, fieldAt}
+use Rattle.text.specs.{Digits.digitOf, Fields.fourAt, Fields.fieldsAt, Fields.readOf, Lanes.lanes, Plain.isDigit, Plain.allDigits, Plain.fieldAt}
 use Rattle.text.specs.declared.fields.Read.the-variants.{Fields as OfFields, Digit}
 use Rattle.text.proofs.DigitsAt.{value-is, appended, digits-within, digit-in, field-below, field-two, field-cut, field-four}
 use Rattle.text.proofs.LaneLaws.{each, All, Below, joinPairs, sums, times, agree, masked, join-by-masks, each-all, join-below}

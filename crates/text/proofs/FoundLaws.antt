@@ -1,15 +1,10 @@
 -- Line feeds: where the first one stands, one behind a line, none in a text, and that no digit is one. Assumes nothing.
-use mathlib.Core.Path.{_≡_, refl, ap, subst}
-use mathlib.Core.Bool.{Bool, true, false, cond, _&&_, false≢true}
-use mathlib.Core.List.{List, [], _∷_}
+use mathlib.Core.{Path._≡_, Path.refl, Path.ap, Path.subst, Bool.Bool, Bool.true, Bool.false, Bool.cond, Bool.false≢true, List.List, List.[], List._∷_}
 use Prim.Native.Nat.{ℕ, zero, suc, _<_}
-use native.Mathlib.Nat.{le-of-suc-le-suc, not-suc-le-zero}
-use native.Mathlib.Omega.{arith}
-use lib.Dec.{ltb, eqb}
-use lib.ListN.{length, getD}
+use native.Mathlib.{Nat.le-of-suc-le-suc, Nat.not-suc-le-zero, Omega.arith}
+use lib.{Dec.ltb, Dec.eqb, ListN.length, ListN.getD}
 use borrow.Author.Tests.{eqb-true, eq-eqb, ne-eqb}
-use Rattle.text.specs.Digits.{digitOf}
-use Rattle.text.specs.Lines.{lineLength}
+use Rattle.text.specs.{Digits.digitOf, Lines.lineLength}
 
 -- a text whose first line feed is at n
 pub first-feed : (t : List ℕ) (n : ℕ) → n < length t → ((i : ℕ) → i < n → getD t i 0 ≡ 0x0A → ⊥) → getD t n 0 ≡ 0x0A → lineLength t ≡ n
@@ -32,10 +27,6 @@ feed-behind (b ∷ t) h = feed-by (eqb b 0x0A) b t refl (feed-behind t) h
 pub unbroken : (t : List ℕ) → ((i : ℕ) → i < length t → getD t i 0 ≡ 0x0A → ⊥) → lineLength t ≡ length t
 unbroken [] h = refl
 unbroken (b ∷ t) h = rw (ne-eqb b 0x0A (h 0 (omega arith))) (ap suc (unbroken t (λ i l. h (suc i) (omega arith))))
-
-pub both : (x y : Bool) → x && y ≡ true → (x ≡ true) × (y ≡ true)
-both true y e = (refl, e)
-both false y e = absurd (false≢true e)
 
 -- a digit is no line feed
 pub no-feed : (b : ℕ) → ltb (digitOf b) 16 ≡ true → b ≡ 0x0A → ⊥

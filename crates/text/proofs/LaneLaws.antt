@@ -1,14 +1,9 @@
 -- Lanes of any width: a sum, a product and a mask of a word work in each lane, a lane can be read, each can be split in two, and two can be joined. Assumes nothing.
-use mathlib.Core.Path.{_≡_, refl, sym, ap, ap₂, subst, _∙_}
-use mathlib.Core.Bool.{Bool, true, false}
-use mathlib.Core.List.{List, [], _∷_}
+use mathlib.Core.{Path._≡_, Path.refl, Path.sym, Path.ap, Path.ap₂, Path.subst, Path._∙_, Bool.Bool, Bool.true, Bool.false, List.List, List.[], List._∷_}
 use Prim.Native.Nat.{ℕ, zero, suc, _+_, _-_, _*_, _/_, _%_, _^_, _<_}
 use native.Mathlib.Nat.{mul-one, mul-assoc, mod-lt, zero-mod, zero-div, div-one, mul-div-cancel, div-div-eq-div-mul, pow-zero, pow-succ'}
 use native.Mathlib.Omega.{arith}
-use lib.Arith.{digits-lt, digits-div, digits-mod}
-use lib.Bits.{bitAnd, and-block, and-mask, and-high}
-use lib.ListN.{getD}
-use lib.Pow.{pow-add, pow-pos}
+use lib.{Arith.digits-lt, Arith.digits-div, Arith.digits-mod, Bits.bitAnd, Bits.and-block, Bits.and-mask, Bits.and-high, ListN.getD, Pow.pow-add, Pow.pow-pos}
 use Rattle.text.specs.Lanes.{lanes}
 
 -- f in each lane

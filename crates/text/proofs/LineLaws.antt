@@ -1,14 +1,8 @@
 -- The length of the line that starts at a place: at a line feed, before another byte, and at the text's end. Assumes nothing.
-use mathlib.Core.Path.{_≡_}
-use mathlib.Core.Bool.{Bool, true, false, cond}
-use mathlib.Core.List.{List, [], _∷_}
+use mathlib.Core.{Path._≡_, Bool.Bool, Bool.true, Bool.false, Bool.cond, List.List, List.[], List._∷_}
 use Prim.Native.Nat.{ℕ, suc, _+_, _<_, _≤_}
-use native.Mathlib.Nat.{le-refl}
-use native.Mathlib.Numerals.{add-one}
-use native.Mathlib.Omega.{arith}
-use lib.Dec.{eqb}
-use lib.ListN.{length, getD, drop, length-drop, drop-of-length-le}
-use lib.Seq.{drop-cons}
+use native.Mathlib.{Nat.le-refl, Numerals.add-one, Omega.arith}
+use lib.{Dec.eqb, ListN.length, ListN.getD, ListN.drop, ListN.length-drop, ListN.drop-of-length-le, Seq.drop-cons}
 use borrow.Author.Tests.{eq-eqb, ne-eqb}
 use Rattle.text.specs.Lines.{lineLength, lineEnd}
 

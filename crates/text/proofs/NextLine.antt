@@ -1,13 +1,9 @@
 -- The first line of a text and the lines after it: what it takes, where the next starts, the list of lines, and the lines of two texts joined.
 -- Assumes nothing.
-use mathlib.Core.Path.{_≡_, refl, ap, _∙_}
-use mathlib.Core.Bool.{Bool, true, false, cond}
-use mathlib.Core.List.{List, [], _∷_, _++_}
+use mathlib.Core.{Path._≡_, Path.refl, Path.ap, Path._∙_, Bool.Bool, Bool.true, Bool.false, Bool.cond, List.List, List.[], List._∷_, List._++_}
 use Prim.Native.Nat.{ℕ, suc, _+_, _<_, _≤_, min}
-use native.Mathlib.Nat.{le-refl, le-of-suc-le-suc, not-suc-le-zero}
-use native.Mathlib.Omega.{arith}
-use lib.Dec.{leb, ltb, eqb, lit<}
-use lib.ListN.{length, take, drop, length-append, length-drop, drop-of-length-le}
+use native.Mathlib.{Nat.le-refl, Nat.le-of-suc-le-suc, Nat.not-suc-le-zero, Omega.arith}
+use lib.{Dec.leb, Dec.ltb, Dec.eqb, Dec.lit<, ListN.length, ListN.take, ListN.drop, ListN.length-append, ListN.length-drop, ListN.drop-of-length-le}
 use lib.Seq.{take-all, length-take-le, take-append-le, drop-append-le}
 use borrow.Author.Tests.{lt-ltb, le-ltb, ltb-true, ltb-false, leb-true, leb-false}
 use Rattle.text.specs.Lines.{lineLength, lineAt, lineEnd, nextOf, takes, withByte, linesOf, bytesIn}

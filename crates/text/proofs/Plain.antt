@@ -1,18 +1,14 @@
 -- A line is read as the plain words say: its length, then its digits, then its fields. Assumes nothing.
-use mathlib.Core.Path.{_≡_, refl, _∙_}
-use mathlib.Core.Bool.{Bool, true, false, cond, _&&_, _||_}
-use mathlib.Core.List.{List, [], _∷_}
+use mathlib.Core.{Path._≡_, Path.refl, Path._∙_, Bool.Bool, Bool.true, Bool.false, Bool.cond, Bool._&&_, Bool._||_, List.List, List.[], List._∷_}
 use Prim.Native.Nat.{ℕ, _+_, _-_, _*_, _/_, _%_, _<_, _≤_}
 use native.Mathlib.Omega.{arith}
-use lib.Dec.{leb, ltb, eqb}
-use lib.ListN.{length}
+use lib.{Dec.leb, Dec.ltb, Dec.eqb, ListN.length}
 use borrow.Author.Tests.{leb-true, ltb-true, lt-ltb, eqb-true}
-use Rattle.flags.specs.Numbers.{between}
-use Rattle.text.specs.Digits.{digitOf}
-use Rattle.text.specs.Fields.{fourOf, fourAt, fieldsOf, fieldsAt, readOf}
+use Rattle.numbers.specs.Numbers.{between}
+use Rattle.text.specs.{Digits.digitOf, Fields.fourOf, Fields.fourAt, Fields.fieldsOf, Fields.fieldsAt, Fields.readOf}
 use Rattle.text.specs.Plain.{isDigit, allDigits, numberOf, fieldsIn}
 use Rattle.text.specs.declared.fields.Read.the-variants.{Fields as OfFields, Length, Digit}
-use Rattle.text.proofs.FoundLaws.{both}
+use Rattle.numbers.proofs.BoolLaws.{both}
 
 -- ---- digits
 

@@ -1,16 +1,11 @@
 -- What is written is read as the same number: an answer line is 19 bytes, and its digits read back give what was written, in any letters that are
 -- read as their digits. Capitals are such, and small letters read as capitals do. Assumes nothing.
-use mathlib.Core.Path.{_≡_, refl}
-use mathlib.Core.Bool.{Bool, true, false, cond}
-use Prim.Native.Nat.{ℕ, _+_, _*_, _/_, _%_, _<_, _≤_}
+use mathlib.Core.{Path._≡_, Path.refl, Bool.Bool, Bool.true, Bool.false, Bool.cond}
+use Prim.Native.Nat.{ℕ, _+_, _/_, _%_, _<_, _≤_}
 use native.Mathlib.Omega.{arith}
-use lib.Dec.{ltb}
-use lib.ListN.{length, getD}
+use lib.{Dec.ltb, ListN.length}
 use borrow.Author.Tests.{ltb-true, ltb-false, lt-ltb, le-leb, lt-leb}
-use Rattle.text.specs.Digits.{digitOf, capitalOf}
-use Rattle.text.specs.Fields.{fourOf, fourAt}
-use Rattle.text.specs.Plain.{numberOf}
-use Rattle.text.specs.Written.{two, four, written}
+use Rattle.text.specs.{Digits.digitOf, Digits.capitalOf, Fields.fourOf, Fields.fourAt, Plain.numberOf, Written.two, Written.four, Written.written}
 
 pub written-length : (letter : ℕ → ℕ) (status flags steps r s : ℕ) → length (written letter status flags steps r s) ≡ 19
 unfolding written
@@ -73,25 +68,3 @@ module _ (letter : ℕ → ℕ) (reads : (k : ℕ) → k < 16 → digitOf (lette
   pub four-number : (k : ℕ) → k < 0x1_0000 → numberOf (four letter k) ≡ k
   four-number k h =
       rw (reads (k / 0x1000) (omega arith), reads (k / 0x100 % 16) (omega arith), reads (k / 0x10 % 16) (omega arith), reads (k % 16) (omega arith)) (omega arith)
-
-  module _ (status flags steps r s : ℕ) where
-    pub status-read : status < 0x100
-        → digitOf (getD (written letter status flags steps r s) 0 0) * 16 + digitOf (getD (written letter status flags steps r s) 1 0) ≡ status
-    unfolding written
-    status-read h = simp (reads (status / 16) (omega arith), reads (status % 16) (omega arith)) (omega arith)
-
-    pub flags-read : flags < 0x1_0000 → fourAt (written letter status flags steps r s) 2 ≡ flags
-    unfolding written fourAt
-    flags-read h = four-read flags h
-
-    pub steps-read : steps < 0x1_0000 → fourAt (written letter status flags steps r s) 6 ≡ steps
-    unfolding written fourAt
-    steps-read h = four-read steps h
-
-    pub r-read : r < 0x1_0000 → fourAt (written letter status flags steps r s) 10 ≡ r
-    unfolding written fourAt
-    r-read h = four-read r h
-
-    pub s-read : s < 0x1_0000 → fourAt (written letter status flags steps r s) 14 ≡ s
-    unfolding written fourAt
-    s-read h = four-read s h

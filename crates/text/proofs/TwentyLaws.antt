@@ -1,23 +1,13 @@
 -- Twenty bytes at a place of a text: they are a request exactly if they are digits, and a line if a line feed follows them. Assumes nothing.
-use mathlib.Core.Path.{_≡_, refl, sym, ap, _∙_}
-use mathlib.Core.Bool.{Bool, true, false, cond}
-use mathlib.Core.List.{List}
+use mathlib.Core.{Path._≡_, Path.refl, Path.sym, Path.ap, Path._∙_, Bool.Bool, Bool.true, Bool.false, Bool.cond, List.List}
 use Prim.Native.Nat.{ℕ, _+_, _<_, _≤_}
 use native.Mathlib.Omega.{arith}
-use lib.Dec.{lit≤}
-use lib.ListN.{length, getD, take, drop, length-drop}
-use lib.Seq.{getD-take, getD-drop, length-take-le}
+use lib.{Dec.lit≤, ListN.length, ListN.getD, ListN.take, ListN.drop, ListN.length-drop, Seq.getD-take, Seq.getD-drop, Seq.length-take-le}
 use borrow.Author.Tests.{eq-eqb}
-use Rattle.text.specs.Digits.{digitOf}
-use Rattle.text.specs.Fields.{fourOf, fourAt, fieldsOf, fieldsAt, readOf}
-use Rattle.text.specs.Lines.{lineLength, foundOf}
-use Rattle.text.specs.Plain.{allDigits, fieldAt, fieldsIn}
-use Rattle.text.specs.declared.fields.Fields.{Fields}
-use Rattle.text.specs.declared.fields.Read.{Read}
+use Rattle.text.specs.{Digits.digitOf, Fields.fourOf, Fields.fourAt, Fields.fieldsOf, Fields.fieldsAt, Fields.readOf, Lines.lineLength, Lines.foundOf}
+use Rattle.text.specs.{Plain.allDigits, Plain.fieldAt, Plain.fieldsIn, declared.fields.Fields.Fields, declared.fields.Read.Read}
 use Rattle.text.specs.declared.fields.Read.the-variants.{Fields as OfFields, Length, Digit}
-use Rattle.text.proofs.DigitsAt.{digits-no-feed, field-part}
-use Rattle.text.proofs.FoundLaws.{first-feed}
-use Rattle.text.proofs.Plain.{read-plainly}
+use Rattle.text.proofs.{DigitsAt.digits-no-feed, DigitsAt.field-part, FoundLaws.first-feed, Plain.read-plainly}
 
 abbrev isFields : Read → Bool
 isFields (OfFields f) = true

@@ -1,11 +1,10 @@
 -- A request line of 20 digits, the high digit first: op (2), mode (2), flags (4), X (8), Y (4). Assumes nothing.
-use mathlib.Core.Bool.{Bool, cond, _&&_}
+use mathlib.Core.Bool.{cond, _&&_}
 use mathlib.Core.List.{List}
 use Prim.Native.Nat.{ℕ, _+_, _*_, _/_, _%_}
 use lib.Dec.{ltb, eqb}
 use lib.ListN.{length, getD}
 use Rattle.text.specs.Digits.{digitOf}
-use Rattle.text.specs.declared.fields.Fields.{Fields}
 use Rattle.text.specs.declared.fields.Read.{Read}
 use Rattle.text.specs.declared.fields.Read.the-variants.{Fields as OfFields, Length, Digit}
 

@@ -3,7 +3,7 @@ use mathlib.Core.Bool.{Bool, true, _&&_, _||_}
 use mathlib.Core.List.{List, [], _∷_}
 use Prim.Native.Nat.{ℕ, _+_, _*_, _^_}
 use lib.ListN.{length, take, drop}
-use Rattle.flags.specs.Numbers.{between}
+use Rattle.numbers.specs.Numbers.{between}
 use Rattle.text.specs.Digits.{digitOf}
 use Rattle.text.specs.declared.fields.Fields.{Fields}
 

@@ -9,7 +9,7 @@ ghost use Rattle.text.specs.Fields.{fourOf, fourAt, fieldsAt, readOf};
 ghost use Rattle.text.specs.Lanes.{lanes};
 ghost use Rattle.text.specs.Plain.{allDigits, fieldAt};
 use crate::digits;
-use crate::numbers;
+use crate::hex;
 
 pub struct Fields {
     pub op: u8,
@@ -96,7 +96,7 @@ pub fn fields_at(table: &[u8; 256], text: &[u8], from: usize) -> Read
 {
     let named = four_at(table, text, from);
     if named < 0x1_0000 {
-        if numbers::all_digits(text, from + 4, 16) {
+        if hex::all_digits(text, from + 4, 16) {
             let a = two_fours(text, from + 4);
             let b = two_fours(text, from + 12);
             return Read::Fields(Fields {
@@ -120,7 +120,7 @@ pub fn read_fields(line: &[u8]) -> Read
     if line.len() != 20 {
         return Read::Length;
     }
-    if numbers::all_digits(line, 0, 20) {
+    if hex::all_digits(line, 0, 20) {
         let a = two_fours(line, 0);
         let b = two_fours(line, 8);
         let c = two_fours(line, 12);

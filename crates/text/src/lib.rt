@@ -3,6 +3,6 @@
 pub mod digits;
 pub mod fields;
 pub mod found;
+pub mod hex;
 pub mod lines;
-pub mod numbers;
 pub mod written;

@@ -3,6 +3,7 @@ pub mod Views
 pub mod OfFlags
 pub mod OfAlu
 pub mod OfNegate
+pub mod OfCorx
 pub mod OfMultiply
 pub mod OfCord
 pub mod OfIdiv
@@ -14,9 +15,9 @@ pub mod OfAnswer
 pub mod OfTrap
 pub mod OfRoads
 pub mod OfRegisters
-pub mod OfOperations
+pub mod OfInstructions
 pub mod OfText
 pub mod OfLine
-pub mod OfRecord
+pub mod OfReadback
 pub mod OfBlocks
 pub mod OfEmbed

@@ -2,8 +2,7 @@
 use mathlib.Core.Path.{refl}
 use Rattle.cord.proofs as lib
 use Rattle.tight.specs.Tight.{Tight}
-use Rattle.tight.proofs.Law.{plainly, through}
-use Rattle.tight.proofs.Views.{cordAnswer8-faithful, cordAnswer16-faithful}
+use Rattle.tight.proofs.{Law.plainly, Law.through, Views.cordAnswer8-faithful, Views.cordAnswer16-faithful}
 
 module _ {M : Type 1} where
   pub lib-cord8 : Tight M lib.cord8.signature lib.cord8.clauses

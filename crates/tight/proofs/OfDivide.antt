@@ -2,8 +2,7 @@
 use mathlib.Core.Path.{refl}
 use Rattle.divide.proofs.div
 use Rattle.tight.specs.Tight.{Tight}
-use Rattle.tight.proofs.Law.{plainly, through}
-use Rattle.tight.proofs.Views.{divided8-faithful, divided16-faithful}
+use Rattle.tight.proofs.{Law.plainly, Law.through, Views.divided8-faithful, Views.divided16-faithful}
 
 module _ {M : Type 1} where
   pub div-div8 : Tight M div.div8.signature div.div8.clauses

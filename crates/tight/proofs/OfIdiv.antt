@@ -2,8 +2,7 @@
 use mathlib.Core.Path.{refl}
 use Rattle.idiv.proofs as lib
 use Rattle.tight.specs.Tight.{Tight}
-use Rattle.tight.proofs.Law.{plainly, through}
-use Rattle.tight.proofs.Views.{negate8-faithful, negate16-faithful, post8Answer-faithful, post16Answer-faithful}
+use Rattle.tight.proofs.{Law.plainly, Law.through, Views.negate8-faithful, Views.negate16-faithful, Views.post8Answer-faithful, Views.post16Answer-faithful}
 
 module _ {M : Type 1} where
   pub lib-pre-idiv8 : Tight M lib.pre_idiv8.signature lib.pre_idiv8.clauses

@@ -2,8 +2,7 @@
 use mathlib.Core.Path.{refl}
 use Rattle.negate.proofs as lib
 use Rattle.tight.specs.Tight.{Tight}
-use Rattle.tight.proofs.Law.{plainly, through}
-use Rattle.tight.proofs.Views.{negate8-faithful, negate16-faithful}
+use Rattle.tight.proofs.{Law.plainly, Law.through, Views.negate8-faithful, Views.negate16-faithful}
 
 module _ {M : Type 1} where
   pub lib-cor-negate8 : Tight M lib.cor_negate8.signature lib.cor_negate8.clauses

@@ -4,7 +4,7 @@ use Rattle.text.proofs.digits
 use Rattle.text.proofs.fields
 use Rattle.text.proofs.found
 use Rattle.text.proofs.lines
-use Rattle.text.proofs.numbers
+use Rattle.text.proofs.hex
 use Rattle.text.proofs.written
 use Rattle.tight.specs.Tight.{Tight}
 use Rattle.tight.proofs.Law.{plainly, same, one-table}
@@ -40,14 +40,14 @@ module _ {M : Type 1} where
   pub lines-next-start : Tight M lines.next_start.signature lines.next_start.clauses
   lines-next-start c g r s = plainly (c .𝓤) (λ e d. (same e d, refl))
 
-  pub numbers-all-digits : Tight M numbers.all_digits.signature numbers.all_digits.clauses
-  numbers-all-digits c g r s = plainly (c .𝓤) (λ e d. (same e d, refl))
+  pub hex-all-digits : Tight M hex.all_digits.signature hex.all_digits.clauses
+  hex-all-digits c g r s = plainly (c .𝓤) (λ e d. (same e d, refl))
 
-  pub numbers-two-digits : Tight M numbers.two_digits.signature numbers.two_digits.clauses
-  numbers-two-digits c g r s = plainly (c .𝓤) (λ e d. (same e d, refl))
+  pub hex-two-digits : Tight M hex.two_digits.signature hex.two_digits.clauses
+  hex-two-digits c g r s = plainly (c .𝓤) (λ e d. (same e d, refl))
 
-  pub numbers-four-digits : Tight M numbers.four_digits.signature numbers.four_digits.clauses
-  numbers-four-digits c g r s = plainly (c .𝓤) (λ e d. (same e d, refl))
+  pub hex-four-digits : Tight M hex.four_digits.signature hex.four_digits.clauses
+  hex-four-digits c g r s = plainly (c .𝓤) (λ e d. (same e d, refl))
 
   pub written-write : Tight M written.write.signature written.write.clauses
   written-write c g r s = plainly (c .𝓤) (λ e d. (refl, λ i. (tt, (tt, (tt, (tt, (tt, (tt, (same e d i, tt)))))))))

@@ -2,51 +2,24 @@
 use mathlib.Core.Path.{_≡_, refl, ap}
 use Prim.Native.Nat.{_<_}
 use native.Mathlib.Omega.{arith}
-use Rattle.alu.specs.Result.{ResultC}
-use Rattle.alu.specs.declared.result.ResultC8.{ResultC8}
-use Rattle.alu.specs.declared.result.ResultC16.{ResultC16}
-use Rattle.alu.specs.Result.{ResultCo}
-use Rattle.alu.specs.declared.result.ResultCo8.{ResultCo8}
-use Rattle.alu.specs.declared.result.ResultCo16.{ResultCo16}
-use Rattle.alu.specs.Result.{ResultCoa}
-use Rattle.alu.specs.declared.result.ResultCoa8.{ResultCoa8}
-use Rattle.alu.specs.declared.result.ResultCoa16.{ResultCoa16}
-use Rattle.alu.specs.Step.{Step}
-use Rattle.alu.specs.declared.step.Step8.{Step8}
-use Rattle.alu.specs.declared.step.Step16.{Step16}
-use Rattle.negate.specs.Negate.{Negate}
-use Rattle.negate.specs.declared.Negate8.{Negate8}
-use Rattle.negate.specs.declared.Negate16.{Negate16}
-use Rattle.multiply.specs.Corx.{Halves}
-use Rattle.multiply.specs.declared.corx.Halves8.{Halves8}
-use Rattle.multiply.specs.declared.corx.Halves16.{Halves16}
-use Rattle.multiply.specs.Routines.{Multiplied}
-use Rattle.multiply.specs.declared.mul.Product8.{Product8}
-use Rattle.multiply.specs.declared.mul.Product16.{Product16}
+use Rattle.alu.specs.{Result.ResultC, Result.ResultCo, Result.ResultCoa, Step.Step, Views.c8, Views.c16, Views.co8, Views.co16, Views.coa8, Views.coa16, Views.step8, Views.step16}
+use Rattle.negate.specs.{Negate.Negate, Views.negate8, Views.negate16}
+use Rattle.corx.specs.{Corx.Halves, Views.halves8, Views.halves16}
+use Rattle.multiply.specs.{Routines.Multiplied, declared.mul.Product16.Product16, Views.product8, Views.product16}
 use Rattle.cord.specs.Cord as Cord
-use Rattle.cord.specs.declared.CordAnswer8.{CordAnswer8}
-use Rattle.cord.specs.declared.CordOutcome8.{CordOutcome8}
-use Rattle.cord.specs.declared.CordOutcome8.the-variants.{Accepted as cordAccepted8, Refused as cordRefused8}
-use Rattle.cord.specs.declared.CordAnswer16.{CordAnswer16}
+use Rattle.cord.specs.{declared.CordOutcome8.CordOutcome8, declared.CordOutcome8.the-variants.Accepted as cordAccepted8, declared.CordOutcome8.the-variants.Refused as cordRefused8}
 use Rattle.cord.specs.declared.CordOutcome16.{CordOutcome16}
 use Rattle.cord.specs.declared.CordOutcome16.the-variants.{Accepted as cordAccepted16, Refused as cordRefused16}
+use Rattle.cord.specs.Views.{cordOutcome8, cordOutcome16, cordAnswer8, cordAnswer16}
 use Rattle.idiv.specs.Idiv as Idiv
-use Rattle.idiv.specs.declared.PostIdiv8.{PostIdiv8}
-use Rattle.idiv.specs.declared.PostIdiv8.the-variants.{Accepted as postAccepted8, Refused as postRefused8}
-use Rattle.idiv.specs.declared.PostIdiv16.{PostIdiv16}
-use Rattle.idiv.specs.declared.PostIdiv16.the-variants.{Accepted as postAccepted16, Refused as postRefused16}
+use Rattle.idiv.specs.{declared.PostIdiv8.PostIdiv8, declared.PostIdiv8.the-variants.Accepted as postAccepted8, declared.PostIdiv8.the-variants.Refused as postRefused8}
+use Rattle.idiv.specs.{declared.PostIdiv16.PostIdiv16, declared.PostIdiv16.the-variants.Accepted as postAccepted16, declared.PostIdiv16.the-variants.Refused as postRefused16}
+use Rattle.idiv.specs.Views.{post8Answer, post16Answer}
 use Rattle.divide.specs.Divide as Divide
-use Rattle.divide.specs.declared.div.Divided8.{Divided8}
 use Rattle.divide.specs.declared.div.DivideOutcome8.{DivideOutcome8}
 use Rattle.divide.specs.declared.div.DivideOutcome8.the-variants.{Accepted as dividedAccepted8, Refused as dividedRefused8}
-use Rattle.divide.specs.declared.div.Divided16.{Divided16}
 use Rattle.divide.specs.declared.div.DivideOutcome16.{DivideOutcome16}
 use Rattle.divide.specs.declared.div.DivideOutcome16.the-variants.{Accepted as dividedAccepted16, Refused as dividedRefused16}
-use Rattle.alu.specs.Views.{c8, c16, co8, co16, coa8, coa16, step8, step16}
-use Rattle.negate.specs.Views.{negate8, negate16}
-use Rattle.multiply.specs.Views.{halves8, halves16, product8, product16}
-use Rattle.cord.specs.Views.{cordOutcome8, cordOutcome16, cordAnswer8, cordAnswer16}
-use Rattle.idiv.specs.Views.{post8Answer, post16Answer}
 use Rattle.divide.specs.Views.{outcome8, outcome16, divided8, divided16}
 use Rattle.tight.proofs.Law.{Faithful}
 

@@ -1,26 +1,18 @@
 -- A divide is refused exactly if the dividend's magnitude is at least 2 ^ (n - 1) times the divisor's, signed, or 2 ^ n times, unsigned: one
 -- law for both, over the width n. Assumes nothing.
-use mathlib.Core.Path.{_≡_, refl, sym, ap, _∙_}
-use mathlib.Core.Bool.{Bool, true, false, not, _&&_}
-use mathlib.Core.Logic.{inl, inr}
+use mathlib.Core.{Path._≡_, Path.refl, Path.sym, Path.ap, Path._∙_, Bool.Bool, Bool.true, Bool.false, Bool.not, Bool._&&_, Logic.inl, Logic.inr}
 use Prim.Native.Nat.{ℕ, _+_, _-_, _*_, _/_, _^_, _≤_, _<_}
-use native.Mathlib.Nat.{pow-le-pow-right, mul-le-mul-left, mul-le-mul-right, div-lt-iff-lt-mul}
-use native.Mathlib.Omega.{arith}
+use native.Mathlib.{Nat.pow-le-pow-right, Nat.mul-le-mul-left, Nat.mul-le-mul-right, Nat.div-lt-iff-lt-mul, Omega.arith}
 use mir.Syntax.{w64}
 use mir.Val.{Fits}
-use lib.Arith.{digits-lt}
-use lib.Dec.{leb, ltb, eqb, lit<}
-use lib.IntN.{natAbs}
-use lib.Pow.{pow-add, pow-pos}
+use lib.{Arith.digits-lt, Dec.leb, Dec.ltb, Dec.eqb, Dec.lit<, IntN.natAbs, Pow.pow-add, Pow.pow-pos}
 use borrow.Author.Tests.{leb-true, leb-false, ltb-true, ltb-false, le-leb, le-ltb, ne-eqb}
-use Rattle.flags.specs.Numbers.{bit, top, topSet, magnitude}
-use Rattle.flags.proofs.Powers.{top-twice, top-double}
-use Rattle.flags.proofs.SignLaws.{plain-lt, magnitude-plain}
+use Rattle.numbers.specs.Numbers.{bit, top, topSet, magnitude}
+use Rattle.numbers.proofs.{Powers.top-twice, Powers.top-double, SignLaws.plain-lt, SignLaws.magnitude-plain}
 use Rattle.alu.proofs.StepLaws.{top-digit}
 use Rattle.divide.specs.Divide.{accepts, quotientOf, dividendOf, divisorOf}
 use Rattle.trap.specs.Compare.{timesOf, reaches}
-use Rattle.divide.proofs.DivLaws.{ByMagnitudes, known}
-use Rattle.divide.proofs.Manual.{quotient-fits}
+use Rattle.divide.proofs.{DivLaws.ByMagnitudes, DivLaws.known, Manual.quotient-fits}
 
 -- accepted: the divisor is not 0, and the quotient's magnitude is below so many times
 accepted-below : (n : ℕ) (s : Bool) (d b : ℕ) → accepts n s d b ≡ not (eqb b 0) && ltb (natAbs (quotientOf n s d b)) (timesOf n s)
@@ -88,10 +80,6 @@ module _ (n x : ℕ) (hn : 0 < n) (hx : x < 2 ^ n) where
 
   pub as-it-is : x / top n ≡ 0 → x ≡ magnitude true n x
   as-it-is h = sym (magnitude-plain n x hx ∙ rw (← negative-bit n x hn hx, h))
-
--- it has no more bits than its number
-pub no-wider : (n x : ℕ) → 0 < n → x < 2 ^ n → magnitude true n x < 2 ^ n
-no-wider n x hn hx = omega (arith, magnitude-plain n x hx, plain-lt n x hn hx)
 
 -- at up to 16 bits so many times a divisor fits 64, and even 32
 pub product-fits : (n : ℕ) → n ≤ 16 → {t m : ℕ} → t ≤ 2 ^ n → m < 2 ^ n → Fits w64 (t * m)

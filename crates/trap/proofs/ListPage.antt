@@ -1,17 +1,13 @@
 -- For a list page: where it is told that a divide would not trap, the divide of the same request is done; where it would and can be asked, that
 -- divide is refused; and what cannot be asked is never told as one that would not. Assumes nothing.
-use mathlib.Core.Path.{_≡_, refl, sym, ap, subst, _∙_}
-use mathlib.Core.Bool.{Bool, true, false, not, cond}
-use mathlib.Core.List.{[], _∷_}
+use mathlib.Core.{Path._≡_, Path.refl, Path.sym, Path.ap, Path.subst, Path._∙_, Bool.Bool, Bool.true, Bool.false, Bool.not, Bool.cond, List.[], List._∷_}
 use mathlib.Core.Logic.{_⊎_, inl, inr, _↔_}
 use Prim.Native.Nat.{ℕ, _+_, _≤_}
 use native.Mathlib.Omega.{arith}
-use lib.Bits.{bitAnd}
-use lib.Dec.{eqb}
+use lib.{Bits.bitAnd, Dec.eqb}
 use borrow.Author.Tests.{eqb-true, le-leb}
-use Rattle.flags.specs.Numbers.{bit, between}
+use Rattle.numbers.specs.{Numbers.bit, Numbers.between, Rows.OneOf}
 use Rattle.answer.specs.Asked.{statusOf}
-use Rattle.answer.specs.Table.{OneOf}
 use Rattle.trap.specs.Told.{WouldTrap, trapBy, wouldTrap}
 use Rattle.answer.proofs.DivideRows.{SixStatuses, six, rep-rows, divide-by-rows}
 use Rattle.trap.proofs.Rows.{told-by-rows}

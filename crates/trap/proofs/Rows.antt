@@ -1,22 +1,17 @@
 -- The table's rows of a divide, and what they make of whether it would trap. Assumes nothing.
-use mathlib.Core.Path.{_≡_, refl, sym, ap, _∙_}
-use mathlib.Core.Bool.{Bool, true, false, not, _||_, true≢false}
+use mathlib.Core.{Path._≡_, Path.refl, Path.sym, Path.ap, Path._∙_, Bool.Bool, Bool.true, Bool.false, Bool.not, Bool._||_}
 use Prim.Native.Nat.{ℕ, _+_, _%_, _^_, _≤_, _<_}
-use native.Mathlib.Nat.{mod-eq-of-lt}
-use native.Mathlib.Omega.{arith}
+use native.Mathlib.{Nat.mod-eq-of-lt, Omega.arith}
 use mir.Val.{boolByte}
-use lib.Bits.{bitAnd}
-use lib.Dec.{ltb, eqb}
+use lib.{Bits.bitAnd, Dec.ltb, Dec.eqb}
 use borrow.Author.Tests.{lt-ltb, le-ltb, lt-leb, ltb-false}
-use Rattle.flags.specs.Numbers.{bit, isSet}
-use Rattle.flags.proofs.Masks.{mask-bit, set-masked, set-unmasked}
-use Rattle.divide.specs.Divide.{accepts}
-use Rattle.divide.specs.declared.div.Refusal.the-variants.{ZeroDivisor, TooWide, SignRange}
+use Rattle.numbers.proofs.{BoolLaws.neither, Masks.mask-bit, Masks.set-masked, Masks.set-unmasked}
+use Rattle.numbers.specs.Numbers.{bit, isSet}
+use Rattle.divide.specs.{Divide.accepts, declared.div.Refusal.the-variants.ZeroDivisor, declared.div.Refusal.the-variants.TooWide, declared.div.Refusal.the-variants.SignRange}
 use Rattle.divide.proofs.Refusals.{three-cover}
 use Rattle.answer.specs.Table.{widthBy}
 use Rattle.trap.specs.Told.{trapTold, trapBy, wouldTrap}
-use Rattle.answer.proofs.Table.{byReason}
-use Rattle.answer.proofs.DivideRows.{large, refusedBy, rowsOf, some-width, divide-by-rows}
+use Rattle.answer.proofs.{Table.byReason, DivideRows.large, DivideRows.refusedBy, DivideRows.rowsOf, DivideRows.some-width, DivideRows.divide-by-rows}
 
 module _ (mode x y : ℕ) where
   pub told-by-rows : wouldTrap mode x y ≡ trapBy (rowsOf mode x y)
@@ -54,10 +49,6 @@ byte-bit {t} e = by t ∙ ap bit e
     by : (t : Bool) → boolByte t ≡ bit t
     by true = refl
     by false = refl
-
-neither : (a b : Bool) → a || b ≡ false → (a ≡ false) × (b ≡ false)
-neither true b e = absurd (true≢false e)
-neither false b e = (refl, e)
 
 module _ (mode x y : ℕ) (hm : mode ≤ 0x07) where
   -- sixteen bits have room for every operand

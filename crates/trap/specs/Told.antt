@@ -2,7 +2,7 @@
 use mathlib.Core.Bool.{not, cond}
 use Prim.Native.Nat.{ℕ}
 use lib.Dec.{eqb}
-use Rattle.flags.specs.Numbers.{bit, between}
+use Rattle.numbers.specs.Numbers.{bit, between}
 use Rattle.answer.specs.Asked.{statusOf}
 
 -- a status, and 1 where the divide would trap, else 0

@@ -3,7 +3,7 @@
 ghost use mathlib.Core.Bool.{true, not};
 ghost use mathlib.Core.Path.{_≡_};
 ghost use Prim.Native.Nat.{_+_, _^_, _≤_, _<_};
-ghost use Rattle.flags.specs.Numbers.{magnitude};
+ghost use Rattle.numbers.specs.Numbers.{magnitude};
 ghost use Rattle.divide.specs.Divide.{accepts};
 use flags::width::Width8;
 use flags::width::Width16;

@@ -15,8 +15,8 @@ fn closed(status: u8, trap: &mut u8) -> u8
     status
 }
 
-// The limits of a divide stand here once more, and the law `told-by-rows` holds them to the table: with a
-// second caller `judge` would no longer be compiled into `ask`.
+// The limits of a divide are tested here too, and the law `told-by-rows` holds them to the table of statuses. With a
+// second caller the compiler would no longer inline `request::decode` into `ask`, and every request would take longer.
 pub fn would_trap(mode: u8, dividend: u32, divisor: u16, trap: &mut u8) -> u8
     ensures { λ r. ⌜ trapTold r (now (trap .exit)) ≡ wouldTrap mode dividend divisor ⌝ }
 {

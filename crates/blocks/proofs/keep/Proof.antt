@@ -1,12 +1,10 @@
 -- `blocks::keep` meets its contract. The invariant: i bytes are moved. Assumes nothing.
-use mathlib.Core.Path.{_≡_, refl, ap, _∙_}
-use mathlib.Core.List.{List}
+use mathlib.Core.{Path._≡_, Path.refl, Path.ap, Path._∙_, List.List}
 use Prim.Native.Nat.{ℕ, _+_, _-_, _≤_}
 use native.Mathlib.Omega.{arith}
 use lib.ListN.{length, getD, set, length-set}
 use borrow.Author.Needs.{needs}
-use Rattle.blocks.proofs.Moved.{movedTo, moved}
-use Rattle.blocks.proofs.keep.Statement.{statement}
+use Rattle.blocks.proofs.{Moved.movedTo, Moved.moved, keep.Statement.statement}
 use Rattle.blocks.proofs.keep.Tie as tie
 
 abbrev Inv-loop : tie.InvT-loop

@@ -3,11 +3,9 @@ use mathlib.Core.Path.{_≡_, ap}
 use Prim.Native.Nat.{ℕ, _+_, _*_, _/_, _%_, _≤_, _<_}
 use native.Mathlib.Omega.{arith}
 use lib.Bits.{bitAnd, and-mask}
-use Rattle.flags.proofs.Masks.{mask-top-clear}
+use Rattle.numbers.proofs.Masks.{mask-top-clear}
 use Rattle.cord.specs.Views.{round16}
-use Rattle.cord.proofs.CordLaws.{refuses}
-use Rattle.cord.proofs.Turning.{Turning, starts, may-turn, turns, ends}
-use Rattle.cord.proofs.cord16.Statement.{statement}
+use Rattle.cord.proofs.{CordLaws.refuses, Turning.Turning, Turning.starts, Turning.may-turn, Turning.turns, Turning.ends, cord16.Statement.statement}
 use Rattle.cord.proofs.cord16.Tie as tie
 
 abbrev Inv-loop : tie.InvT-loop

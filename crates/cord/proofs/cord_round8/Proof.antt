@@ -1,8 +1,7 @@
 -- `cord::cord_round8` meets its contract, road by road, at the width 8. Assumes nothing.
 use native.Mathlib.Omega.{arith}
 use borrow.Author.Needs.{needs}
-use Rattle.cord.proofs.CordLaws.{by-first, by-second, by-third}
-use Rattle.cord.proofs.cord_round8.Statement.{statement}
+use Rattle.cord.proofs.{CordLaws.by-first, CordLaws.by-second, CordLaws.by-third, cord_round8.Statement.statement}
 use Rattle.cord.proofs.cord_round8.Tie as tie
 
 returns : tie.Need-returns

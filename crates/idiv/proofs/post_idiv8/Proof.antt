@@ -1,10 +1,8 @@
 -- `idiv::post_idiv8` meets its contract: refused without the carry, and else both signs. Assumes nothing.
 use native.Mathlib.Omega.{arith}
-use borrow.Author.Needs.{needs}
-use borrow.Author.Tests.{not-true, not-false}
+use borrow.Author.{Needs.needs, Tests.not-true, Tests.not-false}
 use Rattle.cord.specs.Views.{results8}
-use Rattle.idiv.proofs.IdivLaws.{post-refuses, post-accepts}
-use Rattle.idiv.proofs.post_idiv8.Statement.{statement}
+use Rattle.idiv.proofs.{IdivLaws.post-refuses, IdivLaws.post-accepts, post_idiv8.Statement.statement}
 use Rattle.idiv.proofs.post_idiv8.Tie as tie
 
 returns : tie.Need-returns

@@ -2,8 +2,7 @@
 use native.Mathlib.Omega.{arith}
 use borrow.Author.Needs.{needs}
 use Rattle.negate.specs.Views.{pair16}
-use Rattle.idiv.proofs.IdivLaws.{pre-negative, pre-positive}
-use Rattle.idiv.proofs.pre_idiv16.Statement.{statement}
+use Rattle.idiv.proofs.{IdivLaws.pre-negative, IdivLaws.pre-positive, pre_idiv16.Statement.statement}
 use Rattle.idiv.proofs.pre_idiv16.Tie as tie
 
 returns : tie.Need-returns

@@ -1,7 +1,6 @@
 -- `idiv::with_sign8` meets its contract. Assumes nothing.
 use borrow.Author.Needs.{needs}
-use Rattle.idiv.proofs.IdivLaws.{with-minus, with-plus}
-use Rattle.idiv.proofs.with_sign8.Statement.{statement}
+use Rattle.idiv.proofs.{IdivLaws.with-minus, IdivLaws.with-plus, with_sign8.Statement.statement}
 use Rattle.idiv.proofs.with_sign8.Tie as tie
 
 pub with-sign8-spec : {M : Type 1} → statement M

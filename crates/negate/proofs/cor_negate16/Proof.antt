@@ -1,8 +1,7 @@
 -- `negate::cor_negate16` meets its contract: entered at its head, or past the pair. Assumes nothing.
 use native.Mathlib.Omega.{arith}
 use borrow.Author.Needs.{needs}
-use Rattle.negate.proofs.NegateLaws.{skipped, run-through, pair-steps}
-use Rattle.negate.proofs.cor_negate16.Statement.{statement}
+use Rattle.negate.proofs.{NegateLaws.skipped, NegateLaws.run-through, NegateLaws.pair-steps, cor_negate16.Statement.statement}
 use Rattle.negate.proofs.cor_negate16.Tie as tie
 
 make-positive16-requires-2 : tie.Need-make-positive16-requires-2

@@ -2,8 +2,7 @@
 use native.Mathlib.Omega.{arith}
 use borrow.Author.Needs.{needs}
 use Rattle.negate.specs.Views.{pair16}
-use Rattle.negate.proofs.NegateLaws.{second-negative, second-positive}
-use Rattle.negate.proofs.make_positive16.Statement.{statement}
+use Rattle.negate.proofs.{NegateLaws.second-negative, NegateLaws.second-positive, make_positive16.Statement.statement}
 use Rattle.negate.proofs.make_positive16.Tie as tie
 
 returns : tie.Need-returns

@@ -2,8 +2,7 @@
 use native.Mathlib.Omega.{arith}
 use borrow.Author.Needs.{needs}
 use Rattle.negate.specs.Views.{pair8}
-use Rattle.negate.proofs.NegateLaws.{second-negative, second-positive}
-use Rattle.negate.proofs.make_positive8.Statement.{statement}
+use Rattle.negate.proofs.{NegateLaws.second-negative, NegateLaws.second-positive, make_positive8.Statement.statement}
 use Rattle.negate.proofs.make_positive8.Tie as tie
 
 returns : tie.Need-returns

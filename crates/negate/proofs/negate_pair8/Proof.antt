@@ -1,8 +1,7 @@
 -- `negate::negate_pair8` meets its contract, by the law of the pair at the width 8. Assumes nothing.
 use native.Mathlib.Omega.{arith}
 use borrow.Author.Needs.{needs}
-use Rattle.negate.proofs.NegateLaws.{pair-is}
-use Rattle.negate.proofs.negate_pair8.Statement.{statement}
+use Rattle.negate.proofs.{NegateLaws.pair-is, negate_pair8.Statement.statement}
 use Rattle.negate.proofs.negate_pair8.Tie as tie
 
 returns : tie.Need-returns

@@ -6,8 +6,7 @@ use lib.ListN.{length, drop, length-drop}
 use borrow.Author.Needs.{needs}
 use Rattle.text.proofs.LineLaws.{end-within}
 use Rattle.replay.specs.Counted.{countOn}
-use Rattle.replay.proofs.CountLaws.{countFrom, counts-on, counts-out, counts-whole}
-use Rattle.replay.proofs.replay.Statement.{statement}
+use Rattle.replay.proofs.{CountLaws.countFrom, CountLaws.counts-on, CountLaws.counts-out, CountLaws.counts-whole, replay.Statement.statement}
 use Rattle.replay.proofs.replay.Tie as tie
 
 abbrev Inv-loop : tie.InvT-loop

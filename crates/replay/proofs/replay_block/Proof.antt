@@ -1,14 +1,12 @@
 -- `replay::replay_block` meets its contract: what was used lies within what was read, and the rest is moved to the front. Assumes nothing.
-use mathlib.Core.Path.{_≡_, sym, ap}
+use mathlib.Core.Path.{sym, ap}
 use Prim.Native.Nat.{_≤_}
 use native.Mathlib.Omega.{arith}
-use lib.ListN.{take}
-use lib.Seq.{length-take-le}
+use lib.{ListN.take, Seq.length-take-le}
 use borrow.Author.Needs.{needs}
 use Rattle.blocks.proofs.Front.{at-front}
 use Rattle.replay.specs.declared.Replayed.{Replayed}
-use Rattle.replay.proofs.CountLaws.{taken-within}
-use Rattle.replay.proofs.replay_block.Statement.{statement}
+use Rattle.replay.proofs.{CountLaws.taken-within, replay_block.Statement.statement}
 use Rattle.replay.proofs.replay_block.Tie as tie
 
 slice-aggregate-replay : tie.Need-slice-aggregate-replay

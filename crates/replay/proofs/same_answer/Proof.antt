@@ -1,17 +1,13 @@
 -- `replay::same_answer` meets its contract: an answer's 18 digits do not depend on what stood in its room. Assumes nothing.
-use mathlib.Core.Path.{_≡_, refl, sym, ap, _∙_}
-use mathlib.Core.List.{List}
+use mathlib.Core.{Path._≡_, Path.refl, Path.sym, Path.ap, Path._∙_, List.List}
 use Prim.Native.Nat.{ℕ, _-_, _≤_}
 use native.Mathlib.Omega.{arith}
-use lib.ListN.{length, take, drop, replicate, length-drop}
-use lib.Seq.{length-take-le, take-all, take-append-le}
-use borrow.Author.Needs.{needs}
-use borrow.Author.Tests.{lt-ltb, le-ltb}
+use lib.{ListN.length, ListN.take, ListN.drop, ListN.replicate, ListN.length-drop, Seq.length-take-le, Seq.take-all, Seq.take-append-le}
+use borrow.Author.{Needs.needs, Tests.lt-ltb, Tests.le-ltb}
 use Rattle.line.specs.One.{textOf, answered}
 use Rattle.line.proofs.Turns.{textOf-length}
 use Rattle.replay.specs.Record.{sameText, right}
-use Rattle.replay.proofs.RecordLaws.{tells}
-use Rattle.replay.proofs.same_answer.Statement.{statement}
+use Rattle.replay.proofs.{RecordLaws.tells, same_answer.Statement.statement}
 use Rattle.replay.proofs.same_answer.Tie as tie
 
 -- the 18 digits of an answer, where the request is what stands behind the 19th byte

@@ -1,8 +1,7 @@
 -- `roads::magnitude_by` meets its contract: signed or not. Assumes nothing.
-use mathlib.Core.Path.{sym, ap, _∙_}
-use mathlib.Core.Bool.{Bool}
+use mathlib.Core.{Path.sym, Path.ap, Path._∙_, Bool.Bool}
 use borrow.Author.Needs.{needs}
-use Rattle.flags.specs.Numbers.{magnitude}
+use Rattle.numbers.specs.Numbers.{magnitude}
 use Rattle.roads.proofs.magnitude_by.Statement.{statement}
 use Rattle.roads.proofs.magnitude_by.Tie as tie
 

@@ -1,10 +1,8 @@
 -- `roads::roads` meets its contract: the rows of the table for a divide, by the width that its mode names. Assumes nothing.
-use mathlib.Core.Path.{refl, sym, _∙_}
-use mathlib.Core.Logic.{inl, inr}
+use mathlib.Core.{Path.refl, Path.sym, Path._∙_, Logic.inl, Logic.inr}
 use native.Mathlib.Omega.{arith}
 use borrow.Author.Needs.{needs}
-use Rattle.roads.proofs.Rows.{told-mode, told-word, byte-fits, told-byte-large, told-byte}
-use Rattle.roads.proofs.roads.Statement.{statement}
+use Rattle.roads.proofs.{Rows.told-mode, Rows.told-word, Rows.byte-fits, Rows.told-byte-large, Rows.told-byte, roads.Statement.statement}
 use Rattle.roads.proofs.roads.Tie as tie
 
 mode : tie.Need-returns

@@ -2,7 +2,8 @@
 use Prim.Native.Nat.{_+_}
 use native.Mathlib.Omega.{arith}
 use borrow.Author.Needs.{needs}
-use Rattle.roads.proofs.ToldLaws.{status-accepted, status-refused, zero-refused, wide-refused, range-refused, magnitude-lt}
+use Rattle.numbers.proofs.SignLaws.{magnitude-lt}
+use Rattle.roads.proofs.ToldLaws.{status-accepted, status-refused, zero-refused, wide-refused, range-refused}
 use Rattle.roads.proofs.status_of.Statement.{statement}
 use Rattle.roads.proofs.status_of.Tie as tie
 

@@ -3,8 +3,8 @@ use mathlib.Core.Path.{_∙_}
 use Prim.Native.Nat.{_+_, _≤_}
 use native.Mathlib.Omega.{arith}
 use borrow.Author.Needs.{needs}
-use Rattle.roads.proofs.ToldLaws.{either-width, magnitude-lt, told-accepted, told-refused}
-use Rattle.roads.proofs.told.Statement.{statement}
+use Rattle.numbers.proofs.SignLaws.{magnitude-lt}
+use Rattle.roads.proofs.{ToldLaws.either-width, ToldLaws.told-accepted, ToldLaws.told-refused, told.Statement.statement}
 use Rattle.roads.proofs.told.Tie as tie
 
 limits : (c : tie.Start) → (8 ≤ c .args .bits) × (c .args .bits ≤ 16)

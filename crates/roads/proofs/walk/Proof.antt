@@ -1,11 +1,9 @@
 -- `roads::walk` meets its contract: CORD at either width, on the two halves of a number. Assumes nothing.
-use mathlib.Core.Path.{_≡_}
-use mathlib.Core.Logic.{_⊎_, inl, inr}
+use mathlib.Core.{Path._≡_, Logic._⊎_, Logic.inl, Logic.inr}
 use Prim.Native.Nat.{ℕ, _^_, _<_}
 use native.Mathlib.Omega.{arith}
 use borrow.Author.Needs.{needs}
-use Rattle.roads.proofs.ToldLaws.{of-width, walked}
-use Rattle.roads.proofs.walk.Statement.{statement}
+use Rattle.roads.proofs.{ToldLaws.of-width, ToldLaws.walked, walk.Statement.statement}
 use Rattle.roads.proofs.walk.Tie as tie
 
 byte : (c : tie.Then1) → (c .before .args .whole < 2 ^ 16) × (c .before .args .tmpb < 2 ^ 8)

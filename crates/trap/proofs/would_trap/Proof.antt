@@ -2,8 +2,7 @@
 use mathlib.Core.Path.{sym, _∙_}
 use native.Mathlib.Omega.{arith}
 use borrow.Author.Needs.{needs}
-use Rattle.trap.proofs.Rows.{told-mode, told-word, told-byte-large, told-byte}
-use Rattle.trap.proofs.would_trap.Statement.{statement}
+use Rattle.trap.proofs.{Rows.told-mode, Rows.told-word, Rows.told-byte-large, Rows.told-byte, would_trap.Statement.statement}
 use Rattle.trap.proofs.would_trap.Tie as tie
 
 mode : tie.Need-returns

@@ -2,9 +2,8 @@
 use mathlib.Core.Path.{refl}
 use native.Mathlib.Omega.{arith}
 use borrow.Author.Needs.{needs}
-use Rattle.flags.proofs.WordLaws.{bit-le}
-use Rattle.alu.proofs.SumLaws.{adc-is}
-use Rattle.alu.proofs.addition.alu_adc16.Statement.{statement}
+use Rattle.numbers.proofs.BitLaws.{bit-le}
+use Rattle.alu.proofs.{SumLaws.adc-is, addition.alu_adc16.Statement.statement}
 use Rattle.alu.proofs.addition.alu_adc16.Tie as tie
 
 add-sum-2 : tie.Need-add-sum-2

@@ -2,8 +2,7 @@
 use native.Mathlib.Omega.{arith}
 use borrow.Author.Needs.{needs}
 use lib.Pow.{pow-pos}
-use Rattle.alu.proofs.AtOnceLaws.{power}
-use Rattle.alu.proofs.at_once.ones.Statement.{statement}
+use Rattle.alu.proofs.{AtOnceLaws.power, at_once.ones.Statement.statement}
 use Rattle.alu.proofs.at_once.ones.Tie as tie
 
 pub ones-spec : {M : Type 1} → statement M

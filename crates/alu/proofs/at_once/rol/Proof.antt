@@ -1,9 +1,7 @@
 -- `alu::at_once::rol` meets its contract: the number beside itself, read from the other end. Assumes nothing.
-use native.Mathlib.Omega.{arith}
+use native.Mathlib.{Omega.arith, Nat.mod-lt}
 use borrow.Author.Needs.{needs}
-use native.Mathlib.Nat.{mod-lt}
-use Rattle.alu.proofs.AtOnceLaws.{rol-at-once}
-use Rattle.alu.proofs.at_once.rol.Statement.{statement}
+use Rattle.alu.proofs.{AtOnceLaws.rol-at-once, at_once.rol.Statement.statement}
 use Rattle.alu.proofs.at_once.rol.Tie as tie
 
 returns : tie.Need-returns

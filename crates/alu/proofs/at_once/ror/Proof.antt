@@ -1,9 +1,7 @@
 -- `alu::at_once::ror` meets its contract: the number beside itself, from the rest of the count on. Assumes nothing.
-use native.Mathlib.Omega.{arith}
+use native.Mathlib.{Omega.arith, Nat.mod-lt}
 use borrow.Author.Needs.{needs}
-use native.Mathlib.Nat.{mod-lt}
-use Rattle.alu.proofs.AtOnceLaws.{ror-at-once}
-use Rattle.alu.proofs.at_once.ror.Statement.{statement}
+use Rattle.alu.proofs.{AtOnceLaws.ror-at-once, at_once.ror.Statement.statement}
 use Rattle.alu.proofs.at_once.ror.Tie as tie
 
 window-requires : tie.Need-window-requires

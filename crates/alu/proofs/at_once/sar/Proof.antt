@@ -1,9 +1,7 @@
 -- `alu::at_once::sar` meets its contract: the signs above the number, moved by no more than the bits. Assumes nothing.
-use native.Mathlib.Nat.{min-le-right}
-use native.Mathlib.Omega.{arith}
+use native.Mathlib.{Nat.min-le-right, Omega.arith}
 use borrow.Author.Needs.{needs}
-use Rattle.alu.proofs.AtOnceLaws.{signs-lt, signs-fit, sar-at-once}
-use Rattle.alu.proofs.at_once.sar.Statement.{statement}
+use Rattle.alu.proofs.{AtOnceLaws.signs-lt, AtOnceLaws.signs-fit, AtOnceLaws.sar-at-once, at_once.sar.Statement.statement}
 use Rattle.alu.proofs.at_once.sar.Tie as tie
 
 mul-signs : tie.Need-mul-signs

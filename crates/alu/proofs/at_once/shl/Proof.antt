@@ -1,8 +1,7 @@
 -- `alu::at_once::shl` meets its contract: a shift by no more than the bits, cut to them, is all steps. Assumes nothing.
 use native.Mathlib.Omega.{arith}
 use borrow.Author.Needs.{needs}
-use Rattle.alu.proofs.AtOnceLaws.{shl-at-once}
-use Rattle.alu.proofs.at_once.shl.Statement.{statement}
+use Rattle.alu.proofs.{AtOnceLaws.shl-at-once, at_once.shl.Statement.statement}
 use Rattle.alu.proofs.at_once.shl.Tie as tie
 
 returns : tie.Need-returns

@@ -1,8 +1,7 @@
 -- `alu::at_once::shr` meets its contract: a shift by no more than the bits is all steps. Assumes nothing.
 use native.Mathlib.Omega.{arith}
 use borrow.Author.Needs.{needs}
-use Rattle.alu.proofs.AtOnceLaws.{shr-at-once}
-use Rattle.alu.proofs.at_once.shr.Statement.{statement}
+use Rattle.alu.proofs.{AtOnceLaws.shr-at-once, at_once.shr.Statement.statement}
 use Rattle.alu.proofs.at_once.shr.Tie as tie
 
 returns : tie.Need-returns

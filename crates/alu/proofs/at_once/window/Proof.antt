@@ -1,8 +1,7 @@
 -- `alu::at_once::window` meets its contract: two halves put together, moved and cut. Assumes nothing.
 use native.Mathlib.Omega.{arith}
 use borrow.Author.Needs.{needs}
-use Rattle.alu.proofs.AtOnceLaws.{window-is}
-use Rattle.alu.proofs.at_once.window.Statement.{statement}
+use Rattle.alu.proofs.{AtOnceLaws.window-is, at_once.window.Statement.statement}
 use Rattle.alu.proofs.at_once.window.Tie as tie
 
 returns : tie.Need-returns

@@ -1,7 +1,6 @@
 -- `alu::last::of_last` meets its contract, by whether the count is 0. Assumes nothing.
 use native.Mathlib.Omega.{arith}
-use Rattle.alu.proofs.StepLaws.{no-step, some-step}
-use Rattle.alu.proofs.last.of_last.Statement.{statement}
+use Rattle.alu.proofs.{StepLaws.no-step, StepLaws.some-step, last.of_last.Statement.statement}
 use Rattle.alu.proofs.last.of_last.Tie as tie
 
 returns : tie.Need-returns

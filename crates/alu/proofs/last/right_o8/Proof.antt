@@ -1,8 +1,7 @@
 -- `alu::last::right_o8` meets its contract, by the law of O rightward at the width 8. Assumes nothing.
 use native.Mathlib.Omega.{arith}
 use borrow.Author.Needs.{needs}
-use Rattle.alu.proofs.StepLaws.{right-o}
-use Rattle.alu.proofs.last.right_o8.Statement.{statement}
+use Rattle.alu.proofs.{StepLaws.right-o, last.right_o8.Statement.statement}
 use Rattle.alu.proofs.last.right_o8.Tie as tie
 
 returns : tie.Need-returns

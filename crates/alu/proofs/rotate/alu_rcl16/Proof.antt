@@ -2,10 +2,9 @@
 use mathlib.Core.Path.{ap, _∙_}
 use native.Mathlib.Omega.{arith}
 use borrow.Author.Needs.{needs}
-use Rattle.flags.proofs.WordLaws.{bit-le}
+use Rattle.numbers.proofs.BitLaws.{bit-le}
 use Rattle.alu.specs.Shift.{leftO, leftward}
-use Rattle.alu.proofs.WithC.{rcl-done}
-use Rattle.alu.proofs.rotate.alu_rcl16.Statement.{statement}
+use Rattle.alu.proofs.{WithC.rcl-done, rotate.alu_rcl16.Statement.statement}
 use Rattle.alu.proofs.rotate.alu_rcl16.Tie as tie
 
 rol-requires : tie.Need-rol-requires

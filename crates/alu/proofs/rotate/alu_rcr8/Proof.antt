@@ -2,10 +2,9 @@
 use mathlib.Core.Path.{ap, _∙_}
 use native.Mathlib.Omega.{arith}
 use borrow.Author.Needs.{needs}
-use Rattle.flags.proofs.WordLaws.{bit-le}
+use Rattle.numbers.proofs.BitLaws.{bit-le}
 use Rattle.alu.specs.Shift.{rightO, rightward}
-use Rattle.alu.proofs.WithC.{rcr-done}
-use Rattle.alu.proofs.rotate.alu_rcr8.Statement.{statement}
+use Rattle.alu.proofs.{WithC.rcr-done, rotate.alu_rcr8.Statement.statement}
 use Rattle.alu.proofs.rotate.alu_rcr8.Tie as tie
 
 ror-requires : tie.Need-ror-requires

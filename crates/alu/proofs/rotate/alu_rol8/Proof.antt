@@ -1,13 +1,9 @@
 -- `alu::rotate::alu_rol8` meets its contract: the bit that last came round stands below the others. Assumes nothing.
-use mathlib.Core.Bool.{false}
-use mathlib.Core.Path.{ap, _∙_}
+use mathlib.Core.{Bool.false, Path.ap, Path._∙_}
 use native.Mathlib.Omega.{arith}
 use borrow.Author.Needs.{needs}
-use Rattle.alu.specs.Shift.{leftO, leftward}
-use Rattle.alu.specs.Step.{Rol, before}
-use Rattle.alu.proofs.StepLaws.{steps-keep}
-use Rattle.alu.proofs.WithC.{rol-done}
-use Rattle.alu.proofs.rotate.alu_rol8.Statement.{statement}
+use Rattle.alu.specs.{Shift.leftO, Shift.leftward, Step.Rol, Step.before}
+use Rattle.alu.proofs.{StepLaws.steps-keep, WithC.rol-done, rotate.alu_rol8.Statement.statement}
 use Rattle.alu.proofs.rotate.alu_rol8.Tie as tie
 
 fits : tie.Need-cast-result

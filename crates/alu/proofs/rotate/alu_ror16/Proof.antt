@@ -1,13 +1,9 @@
 -- `alu::rotate::alu_ror16` meets its contract: the bit that last came round stands above the others. Assumes nothing.
-use mathlib.Core.Bool.{false}
-use mathlib.Core.Path.{ap, _∙_}
+use mathlib.Core.{Bool.false, Path.ap, Path._∙_}
 use native.Mathlib.Omega.{arith}
 use borrow.Author.Needs.{needs}
-use Rattle.alu.specs.Shift.{rightO, rightward}
-use Rattle.alu.specs.Step.{Ror, before}
-use Rattle.alu.proofs.StepLaws.{steps-keep}
-use Rattle.alu.proofs.WithC.{ror-done}
-use Rattle.alu.proofs.rotate.alu_ror16.Statement.{statement}
+use Rattle.alu.specs.{Shift.rightO, Shift.rightward, Step.Ror, Step.before}
+use Rattle.alu.proofs.{StepLaws.steps-keep, WithC.ror-done, rotate.alu_ror16.Statement.statement}
 use Rattle.alu.proofs.rotate.alu_ror16.Tie as tie
 
 fits : tie.Need-cast-result

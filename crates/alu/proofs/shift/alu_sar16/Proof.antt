@@ -3,11 +3,8 @@ use mathlib.Core.Bool.{false}
 use Prim.Native.Nat.{_*_}
 use native.Mathlib.Omega.{arith}
 use borrow.Author.Needs.{needs}
-use Rattle.alu.specs.Shift.{downward}
-use Rattle.alu.specs.Step.{Sar, before}
-use Rattle.alu.proofs.StepLaws.{steps-keep}
-use Rattle.alu.proofs.WithC.{sar-done}
-use Rattle.alu.proofs.shift.alu_sar16.Statement.{statement}
+use Rattle.alu.specs.{Shift.downward, Step.Sar, Step.before}
+use Rattle.alu.proofs.{StepLaws.steps-keep, WithC.sar-done, shift.alu_sar16.Statement.statement}
 use Rattle.alu.proofs.shift.alu_sar16.Tie as tie
 
 fits : tie.Need-cast-t7

@@ -3,8 +3,7 @@ use mathlib.Core.Path.{ap, _∙_}
 use native.Mathlib.Omega.{arith}
 use borrow.Author.Needs.{needs}
 use Rattle.alu.specs.Shift.{leftO, leftward}
-use Rattle.alu.proofs.WithC.{shl-done}
-use Rattle.alu.proofs.shift.alu_shl8.Statement.{statement}
+use Rattle.alu.proofs.{WithC.shl-done, shift.alu_shl8.Statement.statement}
 use Rattle.alu.proofs.shift.alu_shl8.Tie as tie
 
 returns : tie.Need-returns

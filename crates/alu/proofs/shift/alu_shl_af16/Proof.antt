@@ -1,7 +1,6 @@
 -- `alu::shift::alu_shl_af16` meets its contract: SHL, and A by the mask of bit 4. Assumes nothing.
 use borrow.Author.Needs.{needs}
-use Rattle.alu.proofs.StepLaws.{with-a}
-use Rattle.alu.proofs.shift.alu_shl_af16.Statement.{statement}
+use Rattle.alu.proofs.{StepLaws.with-a, shift.alu_shl_af16.Statement.statement}
 use Rattle.alu.proofs.shift.alu_shl_af16.Tie as tie
 
 returns : tie.Need-returns

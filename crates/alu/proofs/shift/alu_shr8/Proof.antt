@@ -3,11 +3,8 @@ use mathlib.Core.Bool.{false}
 use Prim.Native.Nat.{_*_}
 use native.Mathlib.Omega.{arith}
 use borrow.Author.Needs.{needs}
-use Rattle.alu.specs.Shift.{downward}
-use Rattle.alu.specs.Step.{Shr, before}
-use Rattle.alu.proofs.StepLaws.{steps-keep}
-use Rattle.alu.proofs.WithC.{shr-done}
-use Rattle.alu.proofs.shift.alu_shr8.Statement.{statement}
+use Rattle.alu.specs.{Shift.downward, Step.Shr, Step.before}
+use Rattle.alu.proofs.{StepLaws.steps-keep, WithC.shr-done, shift.alu_shr8.Statement.statement}
 use Rattle.alu.proofs.shift.alu_shr8.Tie as tie
 
 fits : tie.Need-cast-t7

@@ -1,8 +1,7 @@
 -- `alu::step::left16` meets its contract, by the law of the step at the width 16. Assumes nothing.
 use native.Mathlib.Omega.{arith}
 use borrow.Author.Needs.{needs}
-use Rattle.alu.proofs.StepLaws.{left-is}
-use Rattle.alu.proofs.step.left16.Statement.{statement}
+use Rattle.alu.proofs.{StepLaws.left-is, step.left16.Statement.statement}
 use Rattle.alu.proofs.step.left16.Tie as tie
 
 returns : tie.Need-returns

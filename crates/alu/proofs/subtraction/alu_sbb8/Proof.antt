@@ -2,9 +2,8 @@
 use mathlib.Core.Path.{refl}
 use native.Mathlib.Omega.{arith}
 use borrow.Author.Needs.{needs}
-use Rattle.flags.proofs.WordLaws.{bit-le}
-use Rattle.alu.proofs.SumLaws.{sbb-is}
-use Rattle.alu.proofs.subtraction.alu_sbb8.Statement.{statement}
+use Rattle.numbers.proofs.BitLaws.{bit-le}
+use Rattle.alu.proofs.{SumLaws.sbb-is, subtraction.alu_sbb8.Statement.statement}
 use Rattle.alu.proofs.subtraction.alu_sbb8.Tie as tie
 
 add-taken : tie.Need-add-taken

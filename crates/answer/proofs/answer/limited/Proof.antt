@@ -1,5 +1,4 @@
 -- `answer::answer::limited` meets its contract: what is handed in, or 5. Assumes nothing.
-use mathlib.Core.Path.{sym, _∙_}
 use borrow.Author.Needs.{needs}
 use Rattle.answer.proofs.answer.limited.Statement.{statement}
 use Rattle.answer.proofs.answer.limited.Tie as tie

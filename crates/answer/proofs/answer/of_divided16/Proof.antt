@@ -2,8 +2,7 @@
 use mathlib.Core.Path.{_∙_}
 use borrow.Author.Needs.{needs}
 use Rattle.divide.specs.Views.{outcome16}
-use Rattle.answer.proofs.AnswerLaws.{by-outcome, refused-with}
-use Rattle.answer.proofs.answer.of_divided16.Statement.{statement}
+use Rattle.answer.proofs.{AnswerLaws.by-outcome, AnswerLaws.refused-with, answer.of_divided16.Statement.statement}
 use Rattle.answer.proofs.answer.of_divided16.Tie as tie
 
 accepting : tie.Need-returns

@@ -1,8 +1,7 @@
 -- `answer::answer::of_product16` meets its contract: the halves come back from the product that they make up. Assumes nothing.
 use native.Mathlib.Omega.{arith}
 use borrow.Author.Needs.{needs}
-use Rattle.answer.proofs.AnswerLaws.{halves-back}
-use Rattle.answer.proofs.answer.of_product16.Statement.{statement}
+use Rattle.answer.proofs.{AnswerLaws.halves-back, answer.of_product16.Statement.statement}
 use Rattle.answer.proofs.answer.of_product16.Tie as tie
 
 returns : tie.Need-returns

@@ -1,7 +1,6 @@
 -- `answer::ask::answer_raw` meets its contract: the name, and then the chart. Assumes nothing.
-use Rattle.answer.proofs.AnswerLaws.{asked-as}
+use Rattle.answer.proofs.{AnswerLaws.asked-as, ask.answer_raw.Statement.statement}
 use borrow.Author.Needs.{needs}
-use Rattle.answer.proofs.ask.answer_raw.Statement.{statement}
 use Rattle.answer.proofs.ask.answer_raw.Tie as tie
 
 pub answer-raw-spec : {M : Type 1} → statement M

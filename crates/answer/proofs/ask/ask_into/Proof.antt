@@ -1,7 +1,6 @@
 -- `answer::ask::ask_into` meets its contract: the parts of the answer. Assumes nothing.
 use mathlib.Core.Path.{ap}
-use Rattle.answer.specs.Asked.{parts}
-use Rattle.answer.specs.declared.answer.Answer.{Answer}
+use Rattle.answer.specs.{Asked.parts, declared.answer.Answer.Answer}
 use borrow.Author.Needs.{needs}
 use Rattle.answer.proofs.ask.ask_into.Statement.{statement}
 use Rattle.answer.proofs.ask.ask_into.Tie as tie

@@ -1,7 +1,6 @@
 -- `answer::chart::adjusted` meets its contract: each arm is the clause of its adjust, with its limits. Assumes nothing.
-use Rattle.answer.proofs.AnswerLaws.{by-adjust}
+use Rattle.answer.proofs.{AnswerLaws.by-adjust, chart.adjusted.Statement.statement}
 use borrow.Author.Needs.{needs}
-use Rattle.answer.proofs.chart.adjusted.Statement.{statement}
 use Rattle.answer.proofs.chart.adjusted.Tie as tie
 
 pub adjusted-spec : {M : Type 1} → statement M

@@ -1,16 +1,11 @@
 -- `answer::chart::alu16` meets its contract: each arm is the clause of its operation, with its limits; a count is a byte. Assumes nothing.
-use mathlib.Core.Path.{refl, ap, _∙_}
-use mathlib.Core.Bool.{Bool}
+use mathlib.Core.{Path.refl, Path.ap, Path._∙_, Bool.Bool}
 use Prim.Native.Nat.{ℕ, _%_}
 use Rattle.flags.specs.Word.{flagsOf}
-use Rattle.alu.specs.Result.{ResultC, ResultCo, ResultCoa}
-use Rattle.alu.specs.Sum.{adc, sbb}
-use Rattle.alu.specs.Shift.{rcl, rcr}
-use Rattle.answer.specs.Charted.{ofC, ofCo, ofCoa}
-use Rattle.answer.specs.declared.answer.Answer.{Answer}
-use Rattle.answer.proofs.AnswerLaws.{limited-with, alu-word, alu-count}
+use Rattle.alu.specs.{Result.ResultC, Result.ResultCo, Result.ResultCoa, Sum.adc, Sum.sbb, Shift.rcl, Shift.rcr}
+use Rattle.answer.specs.{Charted.ofC, Charted.ofCo, Charted.ofCoa, declared.answer.Answer.Answer}
+use Rattle.answer.proofs.{AnswerLaws.limited-with, AnswerLaws.alu-word, AnswerLaws.alu-count, chart.alu16.Statement.statement}
 use borrow.Author.Needs.{needs}
-use Rattle.answer.proofs.chart.alu16.Statement.{statement}
 use Rattle.answer.proofs.chart.alu16.Tie as tie
 
 -- what an operation made, as an answer

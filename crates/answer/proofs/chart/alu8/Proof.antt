@@ -1,16 +1,11 @@
 -- `answer::chart::alu8` meets its contract: each arm is the clause of its operation, with its limits. Assumes nothing.
-use mathlib.Core.Path.{ap, _∙_}
-use mathlib.Core.Bool.{Bool}
+use mathlib.Core.{Path.ap, Path._∙_, Bool.Bool}
 use Prim.Native.Nat.{ℕ, _%_}
 use Rattle.flags.specs.Word.{flagsOf}
-use Rattle.alu.specs.Result.{ResultC, ResultCo, ResultCoa}
-use Rattle.alu.specs.Sum.{adc, sbb}
-use Rattle.alu.specs.Shift.{rcl, rcr}
-use Rattle.answer.specs.Charted.{ofC, ofCo, ofCoa}
-use Rattle.answer.specs.declared.answer.Answer.{Answer}
-use Rattle.answer.proofs.AnswerLaws.{limited-with, alu-byte}
+use Rattle.alu.specs.{Result.ResultC, Result.ResultCo, Result.ResultCoa, Sum.adc, Sum.sbb, Shift.rcl, Shift.rcr}
+use Rattle.answer.specs.{Charted.ofC, Charted.ofCo, Charted.ofCoa, declared.answer.Answer.Answer}
+use Rattle.answer.proofs.{AnswerLaws.limited-with, AnswerLaws.alu-byte, chart.alu8.Statement.statement}
 use borrow.Author.Needs.{needs}
-use Rattle.answer.proofs.chart.alu8.Statement.{statement}
 use Rattle.answer.proofs.chart.alu8.Tie as tie
 
 -- what an operation made, as an answer

@@ -1,9 +1,8 @@
 -- `answer::chart::chart` meets its contract: each operation has its chart. Assumes nothing.
 use mathlib.Core.Path.{ap, _∙_}
 use Rattle.request.specs.declared.operation.Operation.the-variants.{Alu as OfAlu}
-use Rattle.answer.proofs.AnswerLaws.{told-as}
+use Rattle.answer.proofs.{AnswerLaws.told-as, chart.chart.Statement.statement}
 use borrow.Author.Needs.{needs}
-use Rattle.answer.proofs.chart.chart.Statement.{statement}
 use Rattle.answer.proofs.chart.chart.Tie as tie
 
 byte : tie.Need-returns

@@ -1,13 +1,10 @@
 -- `answer::chart::divided` meets its contract, by the width: within the limits, and outside them. Assumes nothing.
 use mathlib.Core.Path.{sym, ap, _∙_}
-use borrow.Author.Tests.{not-true, not-false}
+use borrow.Author.{Tests.not-true, Tests.not-false, Needs.needs}
 use Rattle.flags.specs.declared.word.Flags.{Flags}
-use Rattle.request.specs.Limits.{largest, dividendMost}
-use Rattle.request.specs.declared.operation.Operation.the-variants.{Divide}
+use Rattle.request.specs.{Limits.largest, Limits.dividendMost, declared.operation.Operation.the-variants.Divide}
 use Rattle.answer.specs.Charted.{dividedOf}
-use Rattle.answer.proofs.AnswerLaws.{inside, outside, quotient-byte, quotient-word}
-use borrow.Author.Needs.{needs}
-use Rattle.answer.proofs.chart.divided.Statement.{statement}
+use Rattle.answer.proofs.{AnswerLaws.inside, AnswerLaws.outside, AnswerLaws.quotient-byte, AnswerLaws.quotient-word, chart.divided.Statement.statement}
 use Rattle.answer.proofs.chart.divided.Tie as tie
 
 byte-out : tie.Need-returns

@@ -1,13 +1,10 @@
 -- `answer::chart::multiplied` meets its contract, by the width: within the limits, and outside them. Assumes nothing.
 use mathlib.Core.Path.{sym, ap, _∙_}
-use borrow.Author.Tests.{not-true, not-false}
+use borrow.Author.{Tests.not-true, Tests.not-false, Needs.needs}
 use Rattle.flags.specs.declared.word.Flags.{Flags}
-use Rattle.request.specs.Limits.{largest}
-use Rattle.request.specs.declared.operation.Operation.the-variants.{Multiply}
+use Rattle.request.specs.{Limits.largest, declared.operation.Operation.the-variants.Multiply}
 use Rattle.answer.specs.Charted.{multipliedOf}
-use Rattle.answer.proofs.AnswerLaws.{inside, outside, product-byte, product-word}
-use borrow.Author.Needs.{needs}
-use Rattle.answer.proofs.chart.multiplied.Statement.{statement}
+use Rattle.answer.proofs.{AnswerLaws.inside, AnswerLaws.outside, AnswerLaws.product-byte, AnswerLaws.product-word, chart.multiplied.Statement.statement}
 use Rattle.answer.proofs.chart.multiplied.Tie as tie
 
 byte-out : tie.Need-returns

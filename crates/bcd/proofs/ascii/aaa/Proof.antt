@@ -2,8 +2,7 @@
 use Prim.Native.Nat.{ℕ, _+_, _%_}
 use borrow.Author.Needs.{needs}
 use Rattle.bcd.specs.Ascii.{aaaO, aaaS, aaaOf}
-use Rattle.bcd.proofs.AdjustLaws.{ascii-moved, ascii-kept}
-use Rattle.bcd.proofs.ascii.aaa.Statement.{statement}
+use Rattle.bcd.proofs.{AdjustLaws.ascii-moved, AdjustLaws.ascii-kept, ascii.aaa.Statement.statement}
 use Rattle.bcd.proofs.ascii.aaa.Tie as tie
 
 returns : tie.Need-returns

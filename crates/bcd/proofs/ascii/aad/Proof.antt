@@ -1,9 +1,8 @@
 -- `bcd::ascii::aad` meets its contract, by the law of AAD. Assumes nothing.
 use native.Mathlib.Omega.{arith}
 use borrow.Author.Needs.{needs}
-use Rattle.multiply.specs.Views.{halves8}
-use Rattle.bcd.proofs.AdjustLaws.{few-steps, aad-is}
-use Rattle.bcd.proofs.ascii.aad.Statement.{statement}
+use Rattle.corx.specs.Views.{halves8}
+use Rattle.bcd.proofs.{AdjustLaws.few-steps, AdjustLaws.aad-is, ascii.aad.Statement.statement}
 use Rattle.bcd.proofs.ascii.aad.Tie as tie
 
 add-t10 : tie.Need-add-t10

@@ -3,8 +3,7 @@ use Prim.Native.Nat.{ℕ, _+_, _-_, _%_}
 use native.Mathlib.Omega.{arith}
 use borrow.Author.Needs.{needs}
 use Rattle.bcd.specs.Ascii.{aasO, aasS, aasOf}
-use Rattle.bcd.proofs.AdjustLaws.{down, ascii-moved, ascii-kept}
-use Rattle.bcd.proofs.ascii.aas.Statement.{statement}
+use Rattle.bcd.proofs.{AdjustLaws.down, AdjustLaws.ascii-moved, AdjustLaws.ascii-kept, ascii.aas.Statement.statement}
 use Rattle.bcd.proofs.ascii.aas.Tie as tie
 
 returns : tie.Need-returns

@@ -1,6 +1,5 @@
 -- `bcd::ascii::aas_overflow` meets its contract. Assumes nothing.
-use mathlib.Core.Path.{ap}
-use mathlib.Core.Bool.{Bool, _&&_}
+use mathlib.Core.{Path.ap, Bool.Bool, Bool._&&_}
 use borrow.Author.Needs.{needs}
 use Rattle.bcd.proofs.ascii.aas_overflow.Statement.{statement}
 use Rattle.bcd.proofs.ascii.aas_overflow.Tie as tie

@@ -1,10 +1,9 @@
 -- `bcd::ascii::cut` meets its contract. Assumes nothing.
 use native.Mathlib.Omega.{arith}
 use borrow.Author.Needs.{needs}
-use Rattle.flags.proofs.WordLaws.{bit-le}
+use Rattle.numbers.proofs.BitLaws.{bit-le}
 use Rattle.bcd.specs.Ascii.{ascii}
-use Rattle.bcd.proofs.AdjustLaws.{steps-less}
-use Rattle.bcd.proofs.ascii.cut.Statement.{statement}
+use Rattle.bcd.proofs.{AdjustLaws.steps-less, ascii.cut.Statement.statement}
 use Rattle.bcd.proofs.ascii.cut.Tie as tie
 
 returns : tie.Need-returns

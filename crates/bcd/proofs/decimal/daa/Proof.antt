@@ -2,8 +2,7 @@
 use Prim.Native.Nat.{ℕ, _+_, _%_}
 use borrow.Author.Needs.{needs}
 use Rattle.bcd.specs.Decimal.{daaO, daaOf}
-use Rattle.bcd.proofs.AdjustLaws.{decimal-moved}
-use Rattle.bcd.proofs.decimal.daa.Statement.{statement}
+use Rattle.bcd.proofs.{AdjustLaws.decimal-moved, decimal.daa.Statement.statement}
 use Rattle.bcd.proofs.decimal.daa.Tie as tie
 
 returns : tie.Need-returns

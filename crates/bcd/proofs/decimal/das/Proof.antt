@@ -2,8 +2,7 @@
 use Prim.Native.Nat.{ℕ, _+_, _-_, _%_}
 use borrow.Author.Needs.{needs}
 use Rattle.bcd.specs.Decimal.{dasO, dasOf}
-use Rattle.bcd.proofs.AdjustLaws.{decimal-moved}
-use Rattle.bcd.proofs.decimal.das.Statement.{statement}
+use Rattle.bcd.proofs.{AdjustLaws.decimal-moved, decimal.das.Statement.statement}
 use Rattle.bcd.proofs.decimal.das.Tie as tie
 
 returns : tie.Need-returns

@@ -1,9 +1,8 @@
 -- `bcd::decimal::distance` meets its contract: each test as a factor. Assumes nothing.
 use native.Mathlib.Omega.{arith}
 use borrow.Author.Needs.{needs}
-use Rattle.flags.proofs.WordLaws.{bit-le}
-use Rattle.bcd.proofs.AdjustLaws.{factors}
-use Rattle.bcd.proofs.decimal.distance.Statement.{statement}
+use Rattle.numbers.proofs.BitLaws.{bit-le}
+use Rattle.bcd.proofs.{AdjustLaws.factors, decimal.distance.Statement.statement}
 use Rattle.bcd.proofs.decimal.distance.Tie as tie
 
 pub distance-spec : {M : Type 1} → statement M

@@ -1,8 +1,7 @@
 -- `divide::div::compare_flags16` meets its contract, by the law of the compare at the width 16. Assumes nothing.
 use borrow.Author.Needs.{needs}
 use Rattle.alu.specs.Views.{coa16}
-use Rattle.divide.proofs.FlagLaws.{compare-is}
-use Rattle.divide.proofs.div.compare_flags16.Statement.{statement}
+use Rattle.divide.proofs.{FlagLaws.compare-is, div.compare_flags16.Statement.statement}
 use Rattle.divide.proofs.div.compare_flags16.Tie as tie
 
 returns : tie.Need-returns

@@ -1,7 +1,6 @@
 -- `divide::div::div16` meets its contract: signed or not. Assumes nothing.
 use borrow.Author.Needs.{needs}
-use Rattle.divide.proofs.DivLaws.{when-signed, when-unsigned}
-use Rattle.divide.proofs.div.div16.Statement.{statement}
+use Rattle.divide.proofs.{DivLaws.when-signed, DivLaws.when-unsigned, div.div16.Statement.statement}
 use Rattle.divide.proofs.div.div16.Tie as tie
 
 pub div16-spec : {M : Type 1} → statement M

@@ -1,7 +1,6 @@
 -- `divide::div::div8` meets its contract: signed or not. Assumes nothing.
 use borrow.Author.Needs.{needs}
-use Rattle.divide.proofs.DivLaws.{when-signed, when-unsigned}
-use Rattle.divide.proofs.div.div8.Statement.{statement}
+use Rattle.divide.proofs.{DivLaws.when-signed, DivLaws.when-unsigned, div.div8.Statement.statement}
 use Rattle.divide.proofs.div.div8.Tie as tie
 
 pub div8-spec : {M : Type 1} → statement M

@@ -1,12 +1,10 @@
 -- `divide::div::finish8` meets its contract: each answer of POSTIDIV has its own. Assumes nothing.
-use mathlib.Core.Path.{_≡_, sym, ap, _∙_}
+use mathlib.Core.Path.{sym, ap, _∙_}
 use borrow.Author.Needs.{needs}
 use Rattle.flags.specs.declared.word.Flags.{Flags}
 use Rattle.cord.specs.Cord.{bothRoads}
-use Rattle.divide.specs.Divide.{accepted}
-use Rattle.divide.specs.Finish.{finished}
-use Rattle.idiv.specs.Views.{post8Answer}
-use Rattle.idiv.specs.declared.PostIdiv8.{PostIdiv8}
+use Rattle.divide.specs.{Divide.accepted, Finish.finished}
+use Rattle.idiv.specs.{Views.post8Answer, declared.PostIdiv8.PostIdiv8}
 use Rattle.divide.proofs.div.finish8.Statement.{statement}
 use Rattle.divide.proofs.div.finish8.Tie as tie
 

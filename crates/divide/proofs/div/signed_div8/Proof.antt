@@ -1,5 +1,5 @@
 -- `divide::div::signed_div8` meets its contract, by what PREIDIV, CORD and POSTIDIV tell at the width 8. Assumes nothing.
-use mathlib.Core.Path.{_≡_, sym, ap, _∙_}
+use mathlib.Core.Path.{_≡_, ap, _∙_}
 use Prim.Native.Nat.{_≤_}
 use native.Mathlib.Omega.{arith}
 use borrow.Author.Needs.{needs}

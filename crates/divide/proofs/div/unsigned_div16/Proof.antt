@@ -1,14 +1,11 @@
 -- `divide::div::unsigned_div16` meets its contract, by what CORD's answer tells at the width 16. Assumes nothing.
-use mathlib.Core.Path.{_≡_, sym, ap, _∙_}
+use mathlib.Core.Path.{_≡_, ap, _∙_}
 use Prim.Native.Nat.{ℕ}
-use native.Mathlib.Nat.{div-add-mod'}
-use native.Mathlib.Omega.{arith}
+use native.Mathlib.{Nat.div-add-mod', Omega.arith}
 use borrow.Author.Needs.{needs}
 use Rattle.cord.specs.Cord as Cord
-use Rattle.cord.specs.Cord.{cord}
-use Rattle.cord.specs.Views.{results16, cordOutcome16, cordAnswer16}
-use Rattle.divide.proofs.DivLaws.{few-steps, unsigned-refused, unsigned-accepted}
-use Rattle.divide.proofs.div.unsigned_div16.Statement.{statement}
+use Rattle.cord.specs.{Cord.cord, Views.results16, Views.cordOutcome16, Views.cordAnswer16}
+use Rattle.divide.proofs.{DivLaws.few-steps, DivLaws.unsigned-refused, DivLaws.unsigned-accepted, div.unsigned_div16.Statement.statement}
 use Rattle.divide.proofs.div.unsigned_div16.Tie as tie
 
 -- CORD's answer on the whole dividend

@@ -1,10 +1,9 @@
 -- `flags::parity::parity` meets its contract: the table holds the rule at every byte. Assumes nothing.
-use mathlib.Core.Path.{_≡_, refl, ap, _∙_}
-use mathlib.Core.Bool.{Bool, true, false, not}
+use mathlib.Core.{Path._≡_, Path.refl, Path.ap, Path._∙_, Bool.Bool, Bool.true, Bool.false, Bool.not}
 use Prim.Native.Nat.{ℕ}
 use lib.Dec.{eqb}
 use borrow.Author.Needs.{needs}
-use Rattle.flags.specs.Numbers.{bit}
+use Rattle.numbers.specs.Numbers.{bit}
 use Rattle.flags.proofs.parity.parity.Statement.{statement}
 use Rattle.flags.proofs.parity.parity.Tie as tie
 

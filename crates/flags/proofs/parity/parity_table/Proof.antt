@@ -2,7 +2,7 @@
 use mathlib.Core.Path.{refl}
 use lib.Count.{ones, onesIn}
 use Rattle.flags.specs.Parity.{evenOnes}
-use Rattle.flags.proofs.Tables.{held}
+use Rattle.numbers.proofs.Tables.{held}
 use Rattle.flags.proofs.parity.parity_table.Statement.{statement}
 use Rattle.flags.proofs.parity.parity_table.Tie as tie
 

@@ -1,11 +1,9 @@
 -- `hatchyarn::block::answer_block` meets its contract: what was used lies within what was read. Assumes nothing.
 use mathlib.Core.Path.{refl, sym}
 use native.Mathlib.Omega.{arith}
-use lib.Dec.{lit<, lit≤}
-use lib.Seq.{length-take-le}
+use lib.{Dec.lit<, Dec.lit≤, Seq.length-take-le}
 use borrow.Author.Needs.{needs}
-use Rattle.hatchyarn.proofs.KeptLaws.{kept-rest, kept-start}
-use Rattle.hatchyarn.proofs.block.answer_block.Statement.{statement}
+use Rattle.hatchyarn.proofs.{KeptLaws.kept-rest, KeptLaws.kept-start, block.answer_block.Statement.statement}
 use Rattle.hatchyarn.proofs.block.answer_block.Tie as tie
 
 slice-aggregate-answer-lines : tie.Need-slice-aggregate-answer-lines

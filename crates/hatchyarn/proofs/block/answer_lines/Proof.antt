@@ -1,17 +1,12 @@
 -- `hatchyarn::block::answer_lines` meets its contract: what a whole run uses is what was used so far, and then what it uses of the rest. Assumes nothing.
-use mathlib.Core.Path.{_≡_, sym}
-use mathlib.Core.Bool.{false≢true}
-use mathlib.Core.List.{[]}
+use mathlib.Core.{Path._≡_, Path.sym, Bool.false≢true, List.[]}
 use Prim.Native.Nat.{_+_, _-_, _*_, _/_, _≤_}
 use native.Mathlib.Omega.{arith}
-use lib.ListN.{length, take, drop, length-drop}
-use lib.Seq.{length-take-le}
+use lib.{ListN.length, ListN.drop, ListN.length-drop, Seq.length-take-le}
 use borrow.Author.Needs.{needs}
-use Rattle.line.specs.One.{textOf}
-use Rattle.line.specs.Whole.{whole}
+use Rattle.line.specs.{One.textOf, Whole.whole}
 use Rattle.line.proofs.RunLaws.{used-within}
-use Rattle.hatchyarn.proofs.RanLaws.{ran-inside, ran-on, ran-out}
-use Rattle.hatchyarn.proofs.block.answer_lines.Statement.{statement}
+use Rattle.hatchyarn.proofs.{RanLaws.ran-inside, RanLaws.ran-on, RanLaws.ran-out, block.answer_lines.Statement.statement}
 use Rattle.hatchyarn.proofs.block.answer_lines.Tie as tie
 
 abbrev Inv-loop : tie.InvT-loop

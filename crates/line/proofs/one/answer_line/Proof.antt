@@ -1,11 +1,9 @@
 -- `line::one::answer_line` meets its contract, with and without room for 19 bytes. Assumes nothing.
-use borrow.Author.Tests.{lt-ltb, le-ltb}
-use mathlib.Core.Path.{ap, _∙_}
-use mathlib.Core.List.{_++_}
+use borrow.Author.{Tests.lt-ltb, Tests.le-ltb, Needs.needs}
+use mathlib.Core.{Path.ap, Path._∙_, List._++_}
 use lib.ListN.{drop}
 use Rattle.text.specs.declared.fields.Read.{Read}
 use Rattle.line.specs.One.{answerBy, textBy, answerOf, textOf}
-use borrow.Author.Needs.{needs}
 use Rattle.line.proofs.one.answer_line.Statement.{statement}
 use Rattle.line.proofs.one.answer_line.Tie as tie
 

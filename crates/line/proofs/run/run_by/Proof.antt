@@ -1,21 +1,14 @@
 -- `line::run::run_by` meets its contract. The invariant: what is done, then the run over the rest, is the whole run. Assumes nothing.
-use mathlib.Core.Path.{_≡_, refl, ap, _∙_}
-use mathlib.Core.List.{List, _++_}
+use mathlib.Core.{Path._≡_, Path.refl, Path.ap, Path._∙_, List.List, List._++_}
 use Prim.Native.Nat.{ℕ, _+_, _-_, _*_, _/_, _≤_}
-use native.Mathlib.Nat.{sub-zero, zero-add}
-use native.Mathlib.Omega.{arith}
+use native.Mathlib.{Nat.sub-zero, Nat.zero-add, Omega.arith}
 use lib.ListN.{length, take, drop, length-drop}
 use borrow.Author.Needs.{needs}
 use borrow.Rule.Slice.PartMut.{same-len-mid}
-use Rattle.text.specs.declared.fields.Read.{Read}
-use Rattle.text.specs.declared.found.Found.{Found}
-use Rattle.text.specs.Fields.{readOf}
-use Rattle.text.specs.Lines.{lineAt, takes}
+use Rattle.text.specs.{declared.fields.Read.Read, declared.found.Found.Found, Fields.readOf, Lines.lineAt, Lines.takes}
 use Rattle.text.proofs.NextLine.{takes-within, next-takes}
-use Rattle.line.specs.One.{answerBy, textBy, answerOf, textOf}
-use Rattle.line.specs.Run.{after, runOf}
-use Rattle.line.proofs.Turns.{textOf-length, stops, full, ended, again}
-use Rattle.line.proofs.run.run_by.Statement.{statement}
+use Rattle.line.specs.{One.answerBy, One.textBy, One.answerOf, One.textOf, Run.after, Run.runOf}
+use Rattle.line.proofs.{Turns.textOf-length, Turns.stops, Turns.full, Turns.ended, Turns.again, run.run_by.Statement.statement}
 use Rattle.line.proofs.run.run_by.Tie as tie
 
 abbrev Inv-loop : tie.InvT-loop

@@ -1,10 +1,8 @@
 -- `multiply::mul::imulcof16` meets its contract at the width 16, where the upper half is a word already. Assumes nothing.
 use native.Mathlib.Omega.{arith}
 use borrow.Author.Needs.{needs}
-use Rattle.multiply.specs.Views.{halves16}
-use Rattle.multiply.proofs.CarryLaws.{word-whole}
-use Rattle.multiply.proofs.MulLaws.{imulcof-is}
-use Rattle.multiply.proofs.mul.imulcof16.Statement.{statement}
+use Rattle.corx.specs.Views.{halves16}
+use Rattle.multiply.proofs.{CarryLaws.word-whole, MulLaws.imulcof-is, mul.imulcof16.Statement.statement}
 use Rattle.multiply.proofs.mul.imulcof16.Tie as tie
 
 returns : tie.Need-returns

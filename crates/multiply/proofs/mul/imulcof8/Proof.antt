@@ -1,9 +1,8 @@
 -- `multiply::mul::imulcof8` meets its contract at the width 8. Assumes nothing.
 use native.Mathlib.Omega.{arith}
 use borrow.Author.Needs.{needs}
-use Rattle.multiply.specs.Views.{halves8}
-use Rattle.multiply.proofs.MulLaws.{imulcof-is}
-use Rattle.multiply.proofs.mul.imulcof8.Statement.{statement}
+use Rattle.corx.specs.Views.{halves8}
+use Rattle.multiply.proofs.{MulLaws.imulcof-is, mul.imulcof8.Statement.statement}
 use Rattle.multiply.proofs.mul.imulcof8.Tie as tie
 
 returns : tie.Need-returns

@@ -3,8 +3,7 @@ use Prim.Native.Nat.{_<_}
 use native.Mathlib.Omega.{arith}
 use borrow.Author.Needs.{needs}
 use Rattle.negate.specs.Views.{negate16}
-use Rattle.multiply.proofs.MulLaws.{preimul-few, multiplied-few, unsigned-is, signed-is}
-use Rattle.multiply.proofs.mul.mul16.Statement.{statement}
+use Rattle.multiply.proofs.{MulLaws.preimul-few, MulLaws.multiplied-few, MulLaws.unsigned-is, MulLaws.signed-is, mul.mul16.Statement.statement}
 use Rattle.multiply.proofs.mul.mul16.Tie as tie
 
 few : (c : tie.After-multiplied16) → c .multiplied16 .result .steps < 300

@@ -1,8 +1,7 @@
 -- `multiply::mul::mulcof16` meets its contract at the width 16. Assumes nothing.
 use borrow.Author.Needs.{needs}
-use Rattle.multiply.specs.Views.{halves16}
-use Rattle.multiply.proofs.MulLaws.{mulcof-is}
-use Rattle.multiply.proofs.mul.mulcof16.Statement.{statement}
+use Rattle.corx.specs.Views.{halves16}
+use Rattle.multiply.proofs.{MulLaws.mulcof-is, mul.mulcof16.Statement.statement}
 use Rattle.multiply.proofs.mul.mulcof16.Tie as tie
 
 returns : tie.Need-returns

@@ -1,8 +1,7 @@
 -- `multiply::mul::mulcof8` meets its contract at the width 8. Assumes nothing.
 use borrow.Author.Needs.{needs}
-use Rattle.multiply.specs.Views.{halves8}
-use Rattle.multiply.proofs.MulLaws.{mulcof-is}
-use Rattle.multiply.proofs.mul.mulcof8.Statement.{statement}
+use Rattle.corx.specs.Views.{halves8}
+use Rattle.multiply.proofs.{MulLaws.mulcof-is, mul.mulcof8.Statement.statement}
 use Rattle.multiply.proofs.mul.mulcof8.Tie as tie
 
 returns : tie.Need-returns

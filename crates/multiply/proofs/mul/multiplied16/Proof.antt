@@ -3,8 +3,7 @@ use Prim.Native.Nat.{_<_}
 use native.Mathlib.Omega.{arith}
 use borrow.Author.Needs.{needs}
 use Rattle.negate.specs.Views.{negate16}
-use Rattle.multiply.proofs.MulLaws.{kept, turned, corx-few, negate-few}
-use Rattle.multiply.proofs.mul.multiplied16.Statement.{statement}
+use Rattle.multiply.proofs.{MulLaws.kept, MulLaws.turned, MulLaws.corx-few, MulLaws.negate-few, mul.multiplied16.Statement.statement}
 use Rattle.multiply.proofs.mul.multiplied16.Tie as tie
 
 -- the steps are few after CORX, and after NEGATE

@@ -1,8 +1,7 @@
 -- `multiply::mul::preimul8` meets its contract, by the first factor's top bit at the width 8. Assumes nothing.
 use native.Mathlib.Omega.{arith}
 use borrow.Author.Needs.{needs}
-use Rattle.multiply.proofs.MulLaws.{first-negative, first-positive}
-use Rattle.multiply.proofs.mul.preimul8.Statement.{statement}
+use Rattle.multiply.proofs.{MulLaws.first-negative, MulLaws.first-positive, mul.preimul8.Statement.statement}
 use Rattle.multiply.proofs.mul.preimul8.Tie as tie
 
 returns : tie.Need-returns

@@ -1,9 +1,8 @@
 -- `multiply::mul::sign_extended` meets its contract, by the top bit. Assumes nothing.
 use native.Mathlib.Omega.{arith}
 use borrow.Author.Needs.{needs}
-use Rattle.flags.proofs.Masks.{top-masked, top-unmasked}
-use Rattle.multiply.proofs.CarryLaws.{word-is}
-use Rattle.multiply.proofs.mul.sign_extended.Statement.{statement}
+use Rattle.numbers.proofs.Masks.{top-masked, top-unmasked}
+use Rattle.multiply.proofs.{CarryLaws.word-is, mul.sign_extended.Statement.statement}
 use Rattle.multiply.proofs.mul.sign_extended.Tie as tie
 
 returns : tie.Need-returns

@@ -1,7 +1,6 @@
 -- `packed::byte::add_byte` meets its contract, by the law of addition: ADC, and DAA with its flags. Assumes nothing.
 use borrow.Author.Needs.{needs}
-use Rattle.packed.proofs.ByteLaws.{by-adc-daa}
-use Rattle.packed.proofs.byte.add_byte.Statement.{statement}
+use Rattle.packed.proofs.{ByteLaws.by-adc-daa, byte.add_byte.Statement.statement}
 use Rattle.packed.proofs.byte.add_byte.Tie as tie
 
 returns : tie.Need-returns

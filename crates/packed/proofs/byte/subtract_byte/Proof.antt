@@ -1,7 +1,6 @@
 -- `packed::byte::subtract_byte` meets its contract, by the law of subtraction: SBB, and DAS with its flags. Assumes nothing.
 use borrow.Author.Needs.{needs}
-use Rattle.packed.proofs.ByteLaws.{by-sbb-das}
-use Rattle.packed.proofs.byte.subtract_byte.Statement.{statement}
+use Rattle.packed.proofs.{ByteLaws.by-sbb-das, byte.subtract_byte.Statement.statement}
 use Rattle.packed.proofs.byte.subtract_byte.Tie as tie
 
 returns : tie.Need-returns

@@ -1,11 +1,8 @@
 -- `packed::byte::work_byte` meets its contract: by which of the two it is. Assumes nothing.
-use mathlib.Core.Path.{_≡_, sym, ap, _∙_}
-use mathlib.Core.Bool.{Bool, true, false}
+use mathlib.Core.{Path._≡_, Path.sym, Path.ap, Path._∙_, Bool.Bool, Bool.true, Bool.false}
 use Prim.Native.Nat.{ℕ}
 use borrow.Author.Needs.{needs}
-use Rattle.packed.specs.Sum.{operationOf}
-use Rattle.packed.specs.Byte.{byteBy}
-use Rattle.packed.specs.declared.byte.Byte.{Byte}
+use Rattle.packed.specs.{Sum.operationOf, Byte.byteBy, declared.byte.Byte.Byte}
 use Rattle.packed.proofs.byte.work_byte.Statement.{statement}
 use Rattle.packed.proofs.byte.work_byte.Tie as tie
 

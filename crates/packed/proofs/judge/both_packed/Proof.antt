@@ -1,13 +1,11 @@
 -- `packed::judge::both_packed` meets its contract. The invariant: what was seen and what is left are packed exactly if all is. Assumes nothing.
-use mathlib.Core.Path.{_≡_, refl, _∙_}
-use mathlib.Core.Bool.{_&&_}
+use mathlib.Core.{Path._≡_, Path.refl, Path._∙_, Bool._&&_}
 use Prim.Native.Nat.{_-_, _≤_}
 use native.Mathlib.Omega.{arith}
 use lib.ListN.{length, drop}
 use borrow.Author.Needs.{needs}
 use Rattle.packed.specs.Digits.{allPacked}
-use Rattle.packed.proofs.JudgeLaws.{one-more, seen}
-use Rattle.packed.proofs.judge.both_packed.Statement.{statement}
+use Rattle.packed.proofs.{JudgeLaws.one-more, JudgeLaws.seen, judge.both_packed.Statement.statement}
 use Rattle.packed.proofs.judge.both_packed.Tie as tie
 
 abbrev Inv-loop : tie.InvT-loop

@@ -1,13 +1,10 @@
 -- `packed::judge::judge` meets its contract: the tests in their order. Assumes nothing.
-use mathlib.Core.Path.{_≡_, sym, _∙_}
-use mathlib.Core.Bool.{true, _&&_}
-use borrow.Author.Needs.{needs}
-use borrow.Author.Tests.{not-true, not-false}
+use mathlib.Core.{Path._≡_, Path.sym, Path._∙_, Bool.true, Bool._&&_}
+use borrow.Author.{Needs.needs, Tests.not-true, Tests.not-false}
 use lib.ListN.{length}
-use Rattle.flags.specs.Numbers.{between}
+use Rattle.numbers.specs.Numbers.{between}
 use Rattle.packed.specs.Digits.{allPacked}
-use Rattle.packed.proofs.JudgeLaws.{differ, misfit, unpacked, roomless, admits}
-use Rattle.packed.proofs.judge.judge.Statement.{statement}
+use Rattle.packed.proofs.{JudgeLaws.differ, JudgeLaws.misfit, JudgeLaws.unpacked, JudgeLaws.roomless, JudgeLaws.admits, judge.judge.Statement.statement}
 use Rattle.packed.proofs.judge.judge.Tie as tie
 
 returns : tie.Need-returns

@@ -2,8 +2,7 @@
 use mathlib.Core.Path.{sym, _∙_}
 use borrow.Author.Needs.{needs}
 use Rattle.packed.specs.Sum.{plus}
-use Rattle.packed.proofs.JudgeLaws.{refuses}
-use Rattle.packed.proofs.string.add.Statement.{statement}
+use Rattle.packed.proofs.{JudgeLaws.refuses, string.add.Statement.statement}
 use Rattle.packed.proofs.string.add.Tie as tie
 
 work-string-requires : tie.Need-work-string-requires

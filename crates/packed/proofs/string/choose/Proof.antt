@@ -5,10 +5,9 @@ use Prim.Native.Nat.{_+_, _-_, _≤_}
 use native.Mathlib.Omega.{arith}
 use lib.ListN.{length, drop, length-set}
 use borrow.Author.Needs.{needs}
-use Rattle.flags.proofs.WordLaws.{bit-le}
+use Rattle.numbers.proofs.BitLaws.{bit-le}
 use Rattle.packed.specs.Halves.{halfOf, chosen, onto}
-use Rattle.packed.proofs.HalvesLaws.{choosing, choosing-more, all-chosen, chosen-first}
-use Rattle.packed.proofs.string.choose.Statement.{statement}
+use Rattle.packed.proofs.{HalvesLaws.choosing, HalvesLaws.choosing-more, HalvesLaws.all-chosen, HalvesLaws.chosen-first, string.choose.Statement.statement}
 use Rattle.packed.proofs.string.choose.Tie as tie
 
 abbrev Inv-loop : tie.InvT-loop

@@ -1,17 +1,12 @@
 -- `packed::string::make_both` meets its contract. The invariant: so many bytes are made for either carry. Assumes nothing.
-use mathlib.Core.Path.{_≡_, subst}
-use mathlib.Core.Bool.{true}
+use mathlib.Core.{Path._≡_, Path.subst, Bool.true}
 use Prim.Native.Nat.{ℕ, _-_, _≤_}
 use native.Mathlib.Omega.{arith}
 use lib.ListN.{length, getD, length-set}
 use borrow.Author.Needs.{needs}
-use Rattle.flags.proofs.WordLaws.{bit-le}
-use Rattle.packed.specs.Digits.{isPacked}
-use Rattle.packed.specs.Sum.{operationOf}
-use Rattle.packed.specs.Halves.{Made}
-use Rattle.packed.proofs.DigitLaws.{all-at}
-use Rattle.packed.proofs.HalvesLaws.{none-made, made-more}
-use Rattle.packed.proofs.string.make_both.Statement.{statement}
+use Rattle.numbers.proofs.BitLaws.{bit-le}
+use Rattle.packed.specs.{Digits.isPacked, Sum.operationOf, Halves.Made}
+use Rattle.packed.proofs.{DigitLaws.all-at, HalvesLaws.none-made, HalvesLaws.made-more, string.make_both.Statement.statement}
 use Rattle.packed.proofs.string.make_both.Tie as tie
 
 abbrev Inv-loop : tie.InvT-loop

@@ -2,8 +2,7 @@
 use mathlib.Core.Path.{sym, _∙_}
 use borrow.Author.Needs.{needs}
 use Rattle.packed.specs.Sum.{minus}
-use Rattle.packed.proofs.JudgeLaws.{refuses}
-use Rattle.packed.proofs.string.subtract.Statement.{statement}
+use Rattle.packed.proofs.{JudgeLaws.refuses, string.subtract.Statement.statement}
 use Rattle.packed.proofs.string.subtract.Tie as tie
 
 work-string-requires : tie.Need-work-string-requires

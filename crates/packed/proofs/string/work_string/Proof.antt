@@ -1,8 +1,6 @@
 -- `packed::string::work_string` meets its contract: what is chosen of the bytes made for either carry is the string. Assumes nothing.
 use borrow.Author.Needs.{needs}
-use Rattle.packed.proofs.JudgeLaws.{admitted}
-use Rattle.packed.proofs.HalvesLaws.{fresh, work-done}
-use Rattle.packed.proofs.string.work_string.Statement.{statement}
+use Rattle.packed.proofs.{JudgeLaws.admitted, HalvesLaws.fresh, HalvesLaws.work-done, string.work_string.Statement.statement}
 use Rattle.packed.proofs.string.work_string.Tie as tie
 
 make-both-requires : tie.Need-make-both-requires

@@ -1,7 +1,7 @@
 -- `registers::by_number::by_op` meets its contract: the op, then the width. Assumes nothing.
 use mathlib.Core.Path.{sym, _∙_}
 use borrow.Author.Tests.{eq-eqb, ne-eqb}
-use Rattle.flags.proofs.Masks.{mask-bit}
+use Rattle.numbers.proofs.Masks.{mask-bit}
 use Rattle.registers.proofs.by_number.by_op.Statement.{statement}
 use Rattle.registers.proofs.by_number.by_op.Tie as tie
 

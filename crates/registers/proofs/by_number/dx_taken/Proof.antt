@@ -2,8 +2,7 @@
 use native.Mathlib.Omega.{arith}
 use Prim.Native.Nat.{_<_}
 use borrow.Author.Needs.{needs}
-use Rattle.registers.proofs.OpLaws.{by-op}
-use Rattle.registers.proofs.by_number.dx_taken.Statement.{statement}
+use Rattle.registers.proofs.{OpLaws.by-op, by_number.dx_taken.Statement.statement}
 use Rattle.registers.proofs.by_number.dx_taken.Tie as tie
 
 fits : tie.Need-cast-result

@@ -2,13 +2,10 @@
 use mathlib.Core.Path.{_≡_, refl, sym, ap, _∙_}
 use Prim.Native.Nat.{ℕ}
 use native.Mathlib.Omega.{arith}
-use borrow.Author.Needs.{needs}
-use borrow.Author.Tests.{not-true, not-false}
+use borrow.Author.{Needs.needs, Tests.not-true, Tests.not-false}
 use Rattle.answer.specs.Asked.{raw, asked}
 use Rattle.registers.specs.Over.{registersOf, requestOver}
-use Rattle.registers.proofs.OverLaws.{not-over, over-is, ax-fits}
-use Rattle.registers.proofs.SettleLaws.{left, taken}
-use Rattle.registers.proofs.by_number.operate.Statement.{statement}
+use Rattle.registers.proofs.{OverLaws.not-over, OverLaws.over-is, OverLaws.ax-fits, SettleLaws.left, SettleLaws.taken, by_number.operate.Statement.statement}
 use Rattle.registers.proofs.by_number.operate.Tie as tie
 
 other : tie.Need-returns

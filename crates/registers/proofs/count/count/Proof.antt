@@ -2,8 +2,7 @@
 use mathlib.Core.Path.{sym}
 use native.Mathlib.Omega.{arith}
 use borrow.Author.Needs.{needs}
-use Rattle.registers.proofs.SettleLaws.{count-not-done, count-past, count-stored}
-use Rattle.registers.proofs.count.count.Statement.{statement}
+use Rattle.registers.proofs.{SettleLaws.count-not-done, SettleLaws.count-past, SettleLaws.count-stored, count.count.Statement.statement}
 use Rattle.registers.proofs.count.count.Tie as tie
 
 before : tie.Need-returns

@@ -1,7 +1,6 @@
 -- `request::decode::alu_at` meets its contract: an arm for each key, and the last for a key of none. Assumes nothing.
 use Rattle.request.specs.Operation.{ops, listed, operationOf, aluAt}
-use Rattle.request.proofs.RequestLaws.{at-alu, aluKeys, none-of, no-alu}
-use Rattle.request.proofs.decode.alu_at.Statement.{statement}
+use Rattle.request.proofs.{RequestLaws.at-alu, RequestLaws.aluKeys, RequestLaws.none-of, RequestLaws.no-alu, decode.alu_at.Statement.statement}
 use Rattle.request.proofs.decode.alu_at.Tie as tie
 
 pub alu-at-spec : {M : Type 1} → statement M

@@ -1,5 +1,5 @@
 -- `request::decode::decode` meets its contract: each arm is what its key names, and what has none is refused. Assumes nothing.
-use mathlib.Core.Path.{_≡_, sym, _∙_}
+use mathlib.Core.Path.{sym, _∙_}
 use Prim.Native.Nat.{ℕ, _+_, _*_, _≤_}
 use borrow.Author.Needs.{needs}
 use Rattle.request.specs.Operation.{ops, listed, operationOf}

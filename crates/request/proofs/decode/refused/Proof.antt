@@ -3,8 +3,7 @@ use mathlib.Core.Path.{refl}
 use native.Mathlib.Omega.{arith}
 use Rattle.request.specs.Operation.{ops, listed, operationOf}
 use Rattle.request.specs.declared.decode.Decoded.the-variants.{Unlisted, WrongMode}
-use Rattle.request.proofs.RequestLaws.{refuses, refuses-above}
-use Rattle.request.proofs.decode.refused.Statement.{statement}
+use Rattle.request.proofs.{RequestLaws.refuses, RequestLaws.refuses-above, decode.refused.Statement.statement}
 use Rattle.request.proofs.decode.refused.Tie as tie
 
 pub refused-spec : {M : Type 1} → statement M

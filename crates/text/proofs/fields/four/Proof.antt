@@ -1,7 +1,6 @@
 -- `text::fields::four` meets its contract: the tests of the code are those of the definition. Assumes nothing.
 use mathlib.Core.Logic.{⊎-elim}
-use borrow.Author.Needs.{needs}
-use borrow.Author.Tests.{lt-ltb, le-ltb}
+use borrow.Author.{Needs.needs, Tests.lt-ltb, Tests.le-ltb}
 use Rattle.text.specs.Fields.{fourOf}
 use Rattle.text.proofs.fields.four.Statement.{statement}
 use Rattle.text.proofs.fields.four.Tie as tie

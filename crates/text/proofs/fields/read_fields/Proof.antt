@@ -1,18 +1,11 @@
 -- `text::fields::read_fields` meets its contract: the length, then the digits, then the fields by eights. Assumes nothing.
-use mathlib.Core.Path.{_≡_, sym, ap, _∙_}
-use mathlib.Core.Bool.{true}
-use mathlib.Core.List.{List}
+use mathlib.Core.{Path._≡_, Path.sym, Path.ap, Path._∙_, Bool.true, List.List}
 use Prim.Native.Nat.{ℕ, _+_, _≤_}
 use native.Mathlib.Omega.{arith}
-use lib.Dec.{lit≤}
-use lib.ListN.{length, take, drop}
-use lib.Seq.{take-all}
-use borrow.Author.Needs.{needs}
-use borrow.Author.Tests.{ne-eqb}
-use Rattle.text.specs.Fields.{readOf}
-use Rattle.text.specs.Plain.{allDigits}
-use Rattle.text.proofs.EightLaws.{LineWords, line-part, by-words, line-there, line-refused}
-use Rattle.text.proofs.fields.read_fields.Statement.{statement}
+use lib.{Dec.lit≤, ListN.length, ListN.take, ListN.drop, Seq.take-all}
+use borrow.Author.{Needs.needs, Tests.ne-eqb}
+use Rattle.text.specs.{Fields.readOf, Plain.allDigits}
+use Rattle.text.proofs.{EightLaws.LineWords, EightLaws.line-part, EightLaws.by-words, EightLaws.line-there, EightLaws.line-refused, fields.read_fields.Statement.statement}
 use Rattle.text.proofs.fields.read_fields.Tie as tie
 
 returns : tie.Need-returns

@@ -4,8 +4,7 @@ use Prim.Native.Nat.{ℕ, _/_}
 use native.Mathlib.Omega.{arith}
 use borrow.Author.Needs.{needs}
 use lib.Bits.{and-le-r}
-use Rattle.text.proofs.EightLaws.{valuesIn, pairsJoined, foursJoined, two-fours-at}
-use Rattle.text.proofs.fields.two_fours.Statement.{statement}
+use Rattle.text.proofs.{EightLaws.valuesIn, EightLaws.pairsJoined, EightLaws.foursJoined, EightLaws.two-fours-at, fields.two_fours.Statement.statement}
 use Rattle.text.proofs.fields.two_fours.Tie as tie
 
 mul-n : tie.Need-mul-n

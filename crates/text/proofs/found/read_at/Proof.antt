@@ -4,8 +4,7 @@ use Prim.Native.Nat.{_+_}
 use native.Mathlib.Omega.{arith}
 use borrow.Author.Needs.{needs}
 use Rattle.text.specs.declared.fields.Read.{Read}
-use Rattle.text.proofs.TwentyLaws.{found-there}
-use Rattle.text.proofs.found.read_at.Statement.{statement}
+use Rattle.text.proofs.{TwentyLaws.found-there, found.read_at.Statement.statement}
 use Rattle.text.proofs.found.read_at.Tie as tie
 
 returns : tie.Need-returns

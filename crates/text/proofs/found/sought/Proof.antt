@@ -4,10 +4,8 @@ use Prim.Native.Nat.{ℕ, _-_}
 use native.Mathlib.Omega.{arith}
 use lib.ListN.{take, drop}
 use borrow.Author.Needs.{needs}
-use Rattle.text.specs.Fields.{readOf}
-use Rattle.text.specs.Lines.{lineLength}
-use Rattle.text.proofs.LineLaws.{end-within}
-use Rattle.text.proofs.found.sought.Statement.{statement}
+use Rattle.text.specs.{Fields.readOf, Lines.lineLength}
+use Rattle.text.proofs.{LineLaws.end-within, found.sought.Statement.statement}
 use Rattle.text.proofs.found.sought.Tie as tie
 
 returns : tie.Need-returns

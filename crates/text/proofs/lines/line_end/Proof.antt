@@ -5,8 +5,7 @@ use native.Mathlib.Omega.{arith}
 use lib.ListN.{length, drop}
 use borrow.Author.Needs.{needs}
 use Rattle.text.specs.Lines.{lineLength}
-use Rattle.text.proofs.LineLaws.{at-feed, at-byte, at-end}
-use Rattle.text.proofs.lines.line_end.Statement.{statement}
+use Rattle.text.proofs.{LineLaws.at-feed, LineLaws.at-byte, LineLaws.at-end, lines.line_end.Statement.statement}
 use Rattle.text.proofs.lines.line_end.Tie as tie
 
 abbrev Inv-loop : tie.InvT-loop

@@ -1,7 +1,6 @@
 -- `text::lines::next_start` meets its contract: the tests of the code are those of the definition. Assumes nothing.
 use native.Mathlib.Omega.{arith}
-use borrow.Author.Needs.{needs}
-use borrow.Author.Tests.{lt-ltb, le-ltb}
+use borrow.Author.{Needs.needs, Tests.lt-ltb, Tests.le-ltb}
 use Rattle.text.proofs.lines.next_start.Statement.{statement}
 use Rattle.text.proofs.lines.next_start.Tie as tie
 

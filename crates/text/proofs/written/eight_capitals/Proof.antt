@@ -3,8 +3,7 @@ use Prim.Native.Nat.{ℕ, _+_, _*_, _≤_}
 use native.Mathlib.Omega.{arith}
 use borrow.Author.Needs.{needs}
 use lib.Bits.{and-le-r}
-use Rattle.text.proofs.CapitalLaws.{bytesApart, digitsApart, eight-law}
-use Rattle.text.proofs.written.eight_capitals.Statement.{statement}
+use Rattle.text.proofs.{CapitalLaws.bytesApart, CapitalLaws.digitsApart, CapitalLaws.eight-law, written.eight_capitals.Statement.statement}
 use Rattle.text.proofs.written.eight_capitals.Tie as tie
 
 -- the two numbers side by side

@@ -2,8 +2,7 @@
 use native.Mathlib.Omega.{arith}
 use lib.ListN.{length-set}
 use borrow.Author.Needs.{needs}
-use Rattle.text.proofs.CapitalLaws.{stored}
-use Rattle.text.proofs.written.put_eight.Statement.{statement}
+use Rattle.text.proofs.{CapitalLaws.stored, written.put_eight.Statement.statement}
 use Rattle.text.proofs.written.put_eight.Tie as tie
 
 returns : tie.Need-returns

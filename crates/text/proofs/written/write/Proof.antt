@@ -1,13 +1,10 @@
 -- `text::written::write` meets its contract: 19 stores side by side. Assumes nothing.
-use mathlib.Core.Path.{_≡_, _∙_}
-use mathlib.Core.List.{List, _++_}
+use mathlib.Core.{Path._≡_, Path._∙_, List.List, List._++_}
 use Prim.Native.Nat.{ℕ, _≤_, _/_, _%_}
 use native.Mathlib.Omega.{arith}
-use lib.ListN.{length, set, drop, length-set}
-use lib.Seq.{sets, sets-eq}
+use lib.{ListN.length, ListN.set, ListN.drop, ListN.length-set, Seq.sets, Seq.sets-eq}
 use borrow.Author.Needs.{needs}
-use Rattle.text.specs.Digits.{capitalOf}
-use Rattle.text.specs.Written.{four, written}
+use Rattle.text.specs.{Digits.capitalOf, Written.four, Written.written}
 use Rattle.text.proofs.written.write.Statement.{statement}
 use Rattle.text.proofs.written.write.Tie as tie
 

@@ -1,8 +1,7 @@
 -- `trap::compare::magnitude_of` meets its contract, by the sign bit. Assumes nothing.
 use native.Mathlib.Omega.{arith}
 use borrow.Author.Needs.{needs}
-use Rattle.trap.proofs.CompareLaws.{left-over, at-most-half, as-it-is}
-use Rattle.trap.proofs.compare.magnitude_of.Statement.{statement}
+use Rattle.trap.proofs.{CompareLaws.left-over, CompareLaws.at-most-half, CompareLaws.as-it-is, compare.magnitude_of.Statement.statement}
 use Rattle.trap.proofs.compare.magnitude_of.Tie as tie
 
 returns : tie.Need-returns

@@ -2,8 +2,7 @@
 use mathlib.Core.Path.{_∙_}
 use native.Mathlib.Omega.{arith}
 use borrow.Author.Needs.{needs}
-use lib.Dec.{lit<}
-use lib.Pow.{shl-exact}
+use lib.{Dec.lit<, Pow.shl-exact}
 use Rattle.trap.proofs.compare.power.Statement.{statement}
 use Rattle.trap.proofs.compare.power.Tie as tie
 

@@ -1,17 +1,15 @@
 -- `trap::compare::would_trap` meets its contract: the comparison of either sign rule says that the divide is not accepted. Assumes nothing.
-use mathlib.Core.Path.{refl}
-use mathlib.Core.Bool.{true, false}
+use mathlib.Core.{Path.refl, Bool.true, Bool.false}
 use native.Mathlib.Omega.{arith}
 use borrow.Author.Needs.{needs}
-use Rattle.flags.proofs.Powers.{top-twice}
-use Rattle.trap.proofs.CompareLaws.{no-wider, product-fits, compares}
-use Rattle.trap.proofs.compare.would_trap.Statement.{statement}
+use Rattle.numbers.proofs.{Powers.top-twice, SignLaws.magnitude-lt}
+use Rattle.trap.proofs.{CompareLaws.product-fits, CompareLaws.compares, compare.would_trap.Statement.statement}
 use Rattle.trap.proofs.compare.would_trap.Tie as tie
 
 mul-result : tie.Need-mul-result
 mul-result c =
     let a = c .before .before .before .before .args in
-    product-fits (a .bits) (omega arith) (omega (arith, c .power .ensures, top-twice (a .bits) (omega arith))) (omega (arith, c .before .magnitude-of2 .ensures, no-wider (a .bits) (a .divisor) (omega arith) (omega arith)))
+    product-fits (a .bits) (omega arith) (omega (arith, c .power .ensures, top-twice (a .bits) (omega arith))) (magnitude-lt (a .bits) true (a .divisor) (omega arith) (omega arith) (c .before .magnitude-of2 .ensures))
 
 mul-result-2 : tie.Need-mul-result-2
 mul-result-2 c = product-fits (c .before .before .args .bits) (omega arith) (omega (arith, c .power2 .ensures)) (omega arith)

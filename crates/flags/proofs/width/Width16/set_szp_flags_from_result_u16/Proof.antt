@@ -5,8 +5,7 @@ use native.Mathlib.Omega.{arith}
 use lib.Bits.{and-mask, mask-lt}
 use borrow.Author.Needs.{needs}
 use Rattle.flags.specs.Parity.{evenOnes}
-use Rattle.flags.proofs.SzpLaws.{szp-by, even-low}
-use Rattle.flags.proofs.width.Width16.set_szp_flags_from_result_u16.Statement.{statement}
+use Rattle.flags.proofs.{SzpLaws.szp-by, SzpLaws.even-low, width.Width16.set_szp_flags_from_result_u16.Statement.statement}
 use Rattle.flags.proofs.width.Width16.set_szp_flags_from_result_u16.Tie as tie
 
 cast-parity : tie.Need-cast-parity

@@ -1,9 +1,7 @@
 -- `flags::width::Width8::set_szp_flags_from_result_u8` meets its contract: S by the top bit's mask, P by the table. Assumes nothing.
 use native.Mathlib.Omega.{arith}
 use borrow.Author.Needs.{needs}
-use Rattle.flags.specs.Szp.{szp}
-use Rattle.flags.proofs.SzpLaws.{szp-by}
-use Rattle.flags.proofs.width.Width8.set_szp_flags_from_result_u8.Statement.{statement}
+use Rattle.flags.proofs.{SzpLaws.szp-by, width.Width8.set_szp_flags_from_result_u8.Statement.statement}
 use Rattle.flags.proofs.width.Width8.set_szp_flags_from_result_u8.Tie as tie
 
 returns : tie.Need-returns

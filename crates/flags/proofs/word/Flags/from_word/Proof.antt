@@ -1,6 +1,6 @@
 -- `flags::word::Flags::from_word` meets its contract: a mask of one bit tests that bit. Assumes nothing.
 use Rattle.flags.specs.Word.{flagsOf}
-use Rattle.flags.proofs.Masks.{mask-bit}
+use Rattle.numbers.proofs.Masks.{mask-bit}
 use Rattle.flags.proofs.word.Flags.from_word.Statement.{statement}
 use Rattle.flags.proofs.word.Flags.from_word.Tie as tie
 

@@ -1,7 +1,6 @@
 -- `flags::word::Flags::to_word` meets its contract: a shift makes room, and the digit that is put in adds to the word. Assumes nothing.
 use borrow.Author.Needs.{needs}
-use Rattle.flags.proofs.WordLaws.{pushed-six}
-use Rattle.flags.proofs.word.Flags.to_word.Statement.{statement}
+use Rattle.flags.proofs.{WordLaws.pushed-six, word.Flags.to_word.Statement.statement}
 use Rattle.flags.proofs.word.Flags.to_word.Tie as tie
 
 returns : tie.Need-returns

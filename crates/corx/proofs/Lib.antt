@@ -1,0 +1,2 @@
+pub mod CorxLaws
+pub mod ChipLaws

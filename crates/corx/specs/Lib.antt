@@ -1,0 +1,4 @@
+pub mod Corx
+pub mod InPlace
+pub mod ChipWalk
+pub mod Views

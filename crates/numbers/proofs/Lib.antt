@@ -1,0 +1,8 @@
+pub mod BoolLaws
+pub mod BitLaws
+pub mod Powers
+pub mod Masks
+pub mod SignedLaws
+pub mod SignLaws
+pub mod Tables
+pub mod RowLaws
