@@ -1,11 +1,11 @@
 -- CORX as the chip walks it, over the width n, comes to what it is defined to leave. Assumes nothing.
 use mathlib.Core.{Path._≡_, Path.sym, Path.ap, Path._∙_, Bool.Bool, Bool.true, Bool.false, Bool.cond}
 use Prim.Native.Nat.{ℕ, zero, suc, _+_, _*_, _/_, _%_, _^_, _<_}
-use native.Mathlib.{Nat.pow-suc, Omega.arith}
+use native.Mathlib.{Nat.pow-suc, Nat.div-add-mod', Omega.arith}
 use lib.{Arith.digits-lt, Arith.digits-div, Arith.digits-mod, Count.ones, Count.ones-cat}
 use Rattle.numbers.specs.Numbers.{bit, top, isSet}
 use Rattle.numbers.proofs.{Powers.top-twice, BitLaws.bit-le, BitLaws.bit-isSet}
-use Rattle.corx.specs.{Corx.corx, Corx.CorxRound, Corx.added, Corx.corxRound, ChipWalk.chipStart, ChipWalk.chipRounds, ChipWalk.chipCorx}
+use Rattle.corx.specs.{Corx.Halves, Corx.corx, Corx.CorxRound, Corx.added, Corx.corxRound, ChipWalk.chipStart, ChipWalk.chipRounds, ChipWalk.chipCorx}
 use Rattle.corx.proofs.CorxLaws.{once-le, ones-digit}
 
 -- the halves as one number, with the carry below it
@@ -94,3 +94,8 @@ module _ (n b c : ℕ) (carry : Bool) (start : ℕ) (hn : 0 < n) (hc : c < 2 ^ n
       let upper : s .tmpa ≡ b * c / 2 ^ n = sym (ap (λ (x : ℕ). x / 2 ^ n) product ∙ digits-div (s .tmpa) (w .small)) in
       let lower : s .tmpc ≡ b * c % 2 ^ n = sym (ap (λ (x : ℕ). x % 2 ^ n) product ∙ digits-mod (s .tmpa) (w .small)) in
       λ i. record { tmpa = upper i; tmpc = lower i; steps = paid i }
+
+  -- so it multiplies exactly, whatever carry enters
+  pub chip-multiplies : chipCorx n b c carry start .tmpa * 2 ^ n + chipCorx n b c carry start .tmpc ≡ b * c
+  unfolding corx
+  chip-multiplies = ap (λ (h : Halves). h .tmpa * 2 ^ n + h .tmpc) chip-walks ∙ div-add-mod' (b * c) (2 ^ n)
