@@ -1,4 +1,4 @@
--- Each public function of `operations` has a tight contract. Assumes nothing.
+-- Each public function of `instructions` has a tight contract. Assumes nothing.
 use mathlib.Core.Path.{refl}
 use Rattle.instructions.proofs.by_value
 use Rattle.instructions.proofs.lent

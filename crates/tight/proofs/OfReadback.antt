@@ -1,4 +1,4 @@
--- Each public function of `record` has a tight contract. Assumes nothing.
+-- Each public function of `readback` has a tight contract. Assumes nothing.
 use mathlib.Core.Path.{refl}
 use Rattle.readback.proofs.judge
 use Rattle.readback.proofs.one
