@@ -5,62 +5,62 @@ use Prim.Native.Nat.{ℕ, zero, suc, ◌+◌, ◌-◌, ◌*◌, ◌/◌, ◌%◌
 use native.Mathlib.{Nat.mod-eq_of_lt, Nat.mod-lt, Nat.div-eq_of_lt, Omega.arith}
 use lib.{Arith.digits_div, Bits.bit_and, Bits.bit_or, Bits.or_shifted, Dec.eqb, Pow.pow_pos}
 use borrow.Author.Tests.{le-leb, lt-leb}
-use Rattle.numbers.specs.Numbers.{bit, is_set, top, topSet}
-use Rattle.numbers.proofs.{Powers.top-twice, Powers.rest-small, Powers.rest-large, Masks.mask-bit, Masks.mask-top, Masks.or-bit, SignedLaws.TopIs, SignedLaws.top-is}
+use Rattle.numbers.specs.Numbers.{bit, is_set, top, top_set}
+use Rattle.numbers.proofs.{Powers.top_twice, Powers.rest_small, Powers.rest_large, Masks.mask_bit, Masks.mask_top, Masks.or_bit, SignedLaws.TopIs, SignedLaws.top_is}
 use Rattle.numbers.proofs.BitLaws.{bit_le}
 use Rattle.alu.specs.Result.{ResultCo, ResultCoa}
 use Rattle.alu.specs.Step.{Shift, Shl, Shr, Sar, Rol, Ror, Rcl, Rcr, Step, before, left, right, step, steps}
-use Rattle.alu.specs.Shift.{ofLast, leftO, rightO, withA, shl, shlAf}
+use Rattle.alu.specs.Shift.{of_last, left_o, right_o, with_a, shl, shl_af}
 
 module _ (n x : ℕ) (e : Bool) (hn : 0 < n) (hx : x < 2 ^ n) where
   pub left_is : ◌≡◌ {A = Step} (record { value = bit_or (x * 2 % 2 ^ n) (bit e); carry = not (eqb (bit_and x (top n)) 0) }) (left n e x)
   unfolding left
-  left_is = λ i. record { value = shifted (topSet n x) (top-is n x) i; carry = mask-top n x hn hx i }
+  left_is = λ i. record { value = shifted (top_set n x) (top_is n x) i; carry = mask_top n x hn hx i }
     where
       shifted : (s : Bool) → TopIs s (top n) x → bit_or (x * 2 % 2 ^ n) (bit e) ≡ (x * 2 + bit e) % 2 ^ n
       shifted true h =
-          let m = top-twice n hn in
+          let m = top_twice n hn in
           let b = bit_le e in
-          let low = rest-large (x * 2) (2 ^ n) (omega arith) (omega arith) in
-          let all = rest-large (x * 2 + bit e) (2 ^ n) (omega arith) (omega arith) in
-          or-bit (x * 2 % 2 ^ n) (bit e) (omega arith) (omega arith) ∙ omega arith
+          let low = rest_large (x * 2) (2 ^ n) (omega arith) (omega arith) in
+          let all = rest_large (x * 2 + bit e) (2 ^ n) (omega arith) (omega arith) in
+          or_bit (x * 2 % 2 ^ n) (bit e) (omega arith) (omega arith) ∙ omega arith
       shifted false h =
-          let m = top-twice n hn in
+          let m = top_twice n hn in
           let b = bit_le e in
-          let low = rest-small (x * 2) (2 ^ n) (omega arith) in
-          let all = rest-small (x * 2 + bit e) (2 ^ n) (omega arith) in
-          or-bit (x * 2 % 2 ^ n) (bit e) (omega arith) (omega arith) ∙ omega arith
+          let low = rest_small (x * 2) (2 ^ n) (omega arith) in
+          let all = rest_small (x * 2 + bit e) (2 ^ n) (omega arith) in
+          or_bit (x * 2 % 2 ^ n) (bit e) (omega arith) (omega arith) ∙ omega arith
 
   pub right_is : ◌≡◌ {A = Step} (record { value = bit_or (bit e * top n % 2 ^ n) (x / 2); carry = not (eqb (bit_and x 1) 0) }) (right n e x)
   unfolding right
-  right_is = λ i. record { value = shifted e i; carry = mask-bit 0 x i }
+  right_is = λ i. record { value = shifted e i; carry = mask_bit 0 x i }
     where
       half : (e : Bool) → (bit e * 2 ^ n + x) / 2 ≡ bit e * top n + x / 2
-      half true = let m = top-twice n hn in omega arith
+      half true = let m = top_twice n hn in omega arith
       half false = omega arith
 
       fits : (e : Bool) → bit e * top n < 2 ^ n
-      fits true = let m = top-twice n hn in omega arith
+      fits true = let m = top_twice n hn in omega arith
       fits false = omega arith
 
       shifted : (e : Bool) → bit_or (bit e * top n % 2 ^ n) (x / 2) ≡ (bit e * 2 ^ n + x) / 2
       shifted e =
-          ap (λ (y : ℕ). bit_or y (x / 2)) (mod-eq_of_lt (fits e)) ∙ or_shifted (bit e) (n - 1) (x / 2) (let m = top-twice n hn in omega arith) ∙ sym (half e)
+          ap (λ (y : ℕ). bit_or y (x / 2)) (mod-eq_of_lt (fits e)) ∙ or_shifted (bit e) (n - 1) (x / 2) (let m = top_twice n hn in omega arith) ∙ sym (half e)
 
 -- n bits stay n bits
-right-keeps : (n : ℕ) (enters : Bool) (x : ℕ) → x < 2 ^ n → (bit enters * 2 ^ n + x) / 2 < 2 ^ n
-right-keeps n true x h = omega arith
-right-keeps n false x h = omega arith
+right_keeps : (n : ℕ) (enters : Bool) (x : ℕ) → x < 2 ^ n → (bit enters * 2 ^ n + x) / 2 < 2 ^ n
+right_keeps n true x h = omega arith
+right_keeps n false x h = omega arith
 
 step_keeps : (n : ℕ) (shift : Shift) (s : Step) → s.value < 2 ^ n → (step n shift s).value < 2 ^ n
 unfolding step left right
 step_keeps n Shl s h = mod-lt (s.value * 2 + 0) (pow_pos n)
-step_keeps n Rol s h = mod-lt (s.value * 2 + bit (topSet n s.value)) (pow_pos n)
+step_keeps n Rol s h = mod-lt (s.value * 2 + bit (top_set n s.value)) (pow_pos n)
 step_keeps n Rcl s h = mod-lt (s.value * 2 + bit s.carry) (pow_pos n)
-step_keeps n Shr s h = right-keeps n false s.value h
-step_keeps n Sar s h = right-keeps n (topSet n s.value) s.value h
-step_keeps n Ror s h = right-keeps n (is_set 0 s.value) s.value h
-step_keeps n Rcr s h = right-keeps n s.carry s.value h
+step_keeps n Shr s h = right_keeps n false s.value h
+step_keeps n Sar s h = right_keeps n (top_set n s.value) s.value h
+step_keeps n Ror s h = right_keeps n (is_set 0 s.value) s.value h
+step_keeps n Rcr s h = right_keeps n s.carry s.value h
 
 pub steps-keep : (n : ℕ) (shift : Shift) (k : ℕ) (s : Step) → s.value < 2 ^ n → (steps n shift k s).value < 2 ^ n
 unfolding steps
@@ -68,60 +68,60 @@ steps-keep n shift zero s h = h
 steps-keep n shift (suc k) s h = step_keeps n shift (steps n shift k s) (steps-keep n shift k s h)
 
 -- the top bit as a digit
-pub top_digit : (n x : ℕ) → 0 < n → x < 2 ^ n → x / top n ≡ bit (topSet n x)
-top_digit n x hn hx = by (topSet n x) (top-is n x)
+pub top_digit : (n x : ℕ) → 0 < n → x < 2 ^ n → x / top n ≡ bit (top_set n x)
+top_digit n x hn hx = by (top_set n x) (top_is n x)
   where
     by : (t : Bool) → TopIs t (top n) x → x / top n ≡ bit t
     by true h =
-        let m = top-twice n hn in
+        let m = top_twice n hn in
         let all : x ≡ 1 * top n + (x - top n) = omega arith in
         ap (λ (y : ℕ). y / top n) all ∙ digits_div 1 (omega arith)
     by false h = div-eq_of_lt h
 
 -- SAR leaves the sign as it is
 module _ (n x : ℕ) (hn : 0 < n) where
-  kept : topSet n (right n (topSet n x) x).value ≡ topSet n x
+  kept : top_set n (right n (top_set n x) x).value ≡ top_set n x
   unfolding right
-  kept = by (topSet n x) (top-is n x)
+  kept = by (top_set n x) (top_is n x)
     where
-      by : (s : Bool) → TopIs s (top n) x → topSet n ((bit s * 2 ^ n + x) / 2) ≡ s
-      by true h = let m = top-twice n hn in le-leb (top n) ((1 * 2 ^ n + x) / 2) (omega arith)
+      by : (s : Bool) → TopIs s (top n) x → top_set n ((bit s * 2 ^ n + x) / 2) ≡ s
+      by true h = let m = top_twice n hn in le-leb (top n) ((1 * 2 ^ n + x) / 2) (omega arith)
       by false h = lt-leb (top n) ((0 * 2 ^ n + x) / 2) (omega arith)
 
-pub stays : (n x : ℕ) (c : Bool) → 0 < n → (k : ℕ) → topSet n (steps n Sar k (before x c)).value ≡ topSet n x
+pub stays : (n x : ℕ) (c : Bool) → 0 < n → (k : ℕ) → top_set n (steps n Sar k (before x c)).value ≡ top_set n x
 unfolding step steps
 stays n x c hn zero = refl
 stays n x c hn (suc k) = kept n (steps n Sar k (before x c)).value hn ∙ stays n x c hn k
 
 -- a flag of the last step, where there is none and where there is one
-pub no_step : (count : ℕ) (flag : Bool) → count ≡ 0 → false ≡ ofLast count flag
+pub no_step : (count : ℕ) (flag : Bool) → count ≡ 0 → false ≡ of_last count flag
 no_step zero flag e = refl
 no_step (suc k) flag e = absurd (omega arith)
 
-pub some-step : (count : ℕ) (flag : Bool) → 0 < count → flag ≡ ofLast count flag
-some-step zero flag h = absurd (omega arith)
-some-step (suc k) flag h = refl
+pub some_step : (count : ℕ) (flag : Bool) → 0 < count → flag ≡ of_last count flag
+some_step zero flag h = absurd (omega arith)
+some_step (suc k) flag h = refl
 
 -- O as the code tests it
 module _ (n x count : ℕ) (c : Bool) (hn : 0 < n) (hx : x < 2 ^ n) {o : Bool} where
-  pub left-o : o ≡ ofLast count (not (beq c (not (eqb (bit_and x (top n)) 0)))) → ◌≡◌ {A = ResultCo} (record { result = x; carry = c; overflow = o }) (leftO n count (before x c))
+  pub left_o_lem : o ≡ of_last count (not (beq c (not (eqb (bit_and x (top n)) 0)))) → ◌≡◌ {A = ResultCo} (record { result = x; carry = c; overflow = o }) (left_o n count (before x c))
   unfolding xor
-  left-o e =
-      let flag = e ∙ ap (λ (b : Bool). ofLast count (not (beq c b))) (mask-top n x hn hx) in
+  left_o_lem e =
+      let flag = e ∙ ap (λ (b : Bool). of_last count (not (beq c b))) (mask_top n x hn hx) in
       λ i. record { result = x; carry = c; overflow = flag i }
 
-  pub right-o : o ≡ ofLast count (not (beq (not (eqb (bit_and x (top n)) 0)) (not (eqb (bit_and x (2 ^ (n - 2))) 0))))
-      → ◌≡◌ {A = ResultCo} (record { result = x; carry = c; overflow = o }) (rightO n count (before x c))
+  pub right_o_lem : o ≡ of_last count (not (beq (not (eqb (bit_and x (top n)) 0)) (not (eqb (bit_and x (2 ^ (n - 2))) 0))))
+      → ◌≡◌ {A = ResultCo} (record { result = x; carry = c; overflow = o }) (right_o n count (before x c))
   unfolding xor
-  right-o e =
+  right_o_lem e =
       let flag =
-      e ∙ ap (λ (b : Bool). ofLast count (not (beq b (not (eqb (bit_and x (2 ^ (n - 2))) 0))))) (mask-top n x hn hx)
-      ∙ ap (λ (b : Bool). ofLast count (not (beq (topSet n x) b))) (mask-bit (n - 2) x) in
+      e ∙ ap (λ (b : Bool). of_last count (not (beq b (not (eqb (bit_and x (2 ^ (n - 2))) 0))))) (mask_top n x hn hx)
+      ∙ ap (λ (b : Bool). of_last count (not (beq (top_set n x) b))) (mask_bit (n - 2) x) in
       λ i. record { result = x; carry = c; overflow = flag i }
 
 -- A of op 0C, on what SHL gave
-pub with-a : (n x count : ℕ) {r : ResultCo} {a : Bool} → r ≡ shl n x count → a ≡ ofLast count (not (eqb (bit_and r.result 16) 0))
-    → ◌≡◌ {A = ResultCoa} (record { result = r.result; carry = r.carry; overflow = r.overflow; auxCarry = a }) (shlAf n x count)
-with-a n x count {r} e ea =
-    let flag = ea ∙ ap (ofLast count) (mask-bit 4 r.result) in
-    (λ i. record { result = r.result; carry = r.carry; overflow = r.overflow; auxCarry = flag i }) ∙ ap (withA count) e
+pub with_a_lem : (n x count : ℕ) {r : ResultCo} {a : Bool} → r ≡ shl n x count → a ≡ of_last count (not (eqb (bit_and r.result 16) 0))
+    → ◌≡◌ {A = ResultCoa} (record { result = r.result; carry = r.carry; overflow = r.overflow; aux_carry = a }) (shl_af n x count)
+with_a_lem n x count {r} e ea =
+    let flag = ea ∙ ap (of_last count) (mask_bit 4 r.result) in
+    (λ i. record { result = r.result; carry = r.carry; overflow = r.overflow; aux_carry = flag i }) ∙ ap (with_a count) e

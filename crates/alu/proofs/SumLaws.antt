@@ -5,10 +5,10 @@ use Prim.Native.Nat.{ℕ, ◌+◌, ◌-◌, ◌*◌, ◌/◌, ◌%◌, ◌^◌, 
 use native.Mathlib.{Nat.mod-lt, Omega.arith}
 use lib.{Bits.bit_and, Bits.bit_xor, Dec.leb, Dec.ltb, Dec.eqb, IntN.pos, IntN.◌+ℤ◌, IntN.◌-ℤ◌, Pow.pow_pos}
 use borrow.Author.Tests.{leb-true, leb-false, ltb-true, ltb-false, le-leb, lt-leb, lt-ltb, le-ltb}
-use Rattle.numbers.specs.Numbers.{bit, is_set, top, topSet, signed, fitsSigned, negated}
-use Rattle.numbers.proofs.{Powers.top-twice, Powers.rest-small, Powers.rest-large, Masks.mask-bit, Masks.digit-xor, Masks.digit_and, Masks.digit-top}
-use Rattle.numbers.proofs.SignedLaws.{above, diff-neg, diff-add, diff-signed, fits-diff, TopIs, top-is, same_test}
-use Rattle.numbers.proofs.BitLaws.{bit_le, bit-isSet}
+use Rattle.numbers.specs.Numbers.{bit, is_set, top, top_set, signed, fits_signed, negated}
+use Rattle.numbers.proofs.{Powers.top_twice, Powers.rest_small, Powers.rest_large, Masks.mask_bit, Masks.digit_xor, Masks.digit_and, Masks.digit-top}
+use Rattle.numbers.proofs.SignedLaws.{above, diff_neg, diff_add, diff_signed, fits_diff, TopIs, top_is, same_test}
+use Rattle.numbers.proofs.BitLaws.{bit_le, bit-is_set}
 use Rattle.alu.specs.{Result.ResultCoa, Sum.adc, Sum.sbb, Sum.sub, Sum.neg}
 
 -- ---- overflow
@@ -27,47 +27,47 @@ over : (u v t : ℕ) → v + t ≤ u → leaves u v t ≡ true
 over u v t h = rw (le-leb v (u + t) (omega arith), le-ltb u (v + t) h)
 
 -- of three top bits the third differs from both others
-abbrev odd-out : Bool → Bool → Bool → Bool
-odd-out x y z = eqb (bit_and (bit_xor (bit x) (bit z)) (bit_xor (bit y) (bit z))) 1
+abbrev odd_out : Bool → Bool → Bool → Bool
+odd_out x y z = eqb (bit_and (bit_xor (bit x) (bit z)) (bit_xor (bit y) (bit z))) 1
 
 -- the code's test of the top bits is theirs
-odd-out-is : (n x y z : ℕ) → 0 < n → x < 2 ^ n → y < 2 ^ n → z < 2 ^ n
-    → not (eqb (bit_and (bit_and (bit_xor x z) (bit_xor y z)) (top n)) 0) ≡ odd-out (topSet n x) (topSet n y) (topSet n z)
-odd-out-is n x y z hn hx hy hz =
-    mask-bit (n - 1) (bit_and (bit_xor x z) (bit_xor y z))
+odd_out_is : (n x y z : ℕ) → 0 < n → x < 2 ^ n → y < 2 ^ n → z < 2 ^ n
+    → not (eqb (bit_and (bit_and (bit_xor x z) (bit_xor y z)) (top n)) 0) ≡ odd_out (top_set n x) (top_set n y) (top_set n z)
+odd_out_is n x y z hn hx hy hz =
+    mask_bit (n - 1) (bit_and (bit_xor x z) (bit_xor y z))
     ∙ ap (λ (d : ℕ). eqb d 1)
     (digit_and (n - 1) (bit_xor x z) (bit_xor y z)
     ∙ ap₂ bit_and
-    (digit-xor (n - 1) x z ∙ ap₂ bit_xor (digit-top n x hn hx) (digit-top n z hn hz))
-    (digit-xor (n - 1) y z ∙ ap₂ bit_xor (digit-top n y hn hy) (digit-top n z hn hz)))
+    (digit_xor (n - 1) x z ∙ ap₂ bit_xor (digit-top n x hn hx) (digit-top n z hn hz))
+    (digit_xor (n - 1) y z ∙ ap₂ bit_xor (digit-top n y hn hy) (digit-top n z hn hz)))
 
 -- z is the sum of x, y and a carry c, mod m = 2 t; X, Y and Z are the three top bits
 module _ (t m x y c z : ℕ) (mt : t * 2 ≡ m) (hx : x < m) (hy : y < m) (hz : z < m) (hc : c ≤ 1)
     (small : x + y + c < m → x + y + c ≡ z) (large : m ≤ x + y + c → x + y + c ≡ z + m) where
-  sum-leaves : (X Y Z : Bool) → TopIs X t x → TopIs Y t y → TopIs Z t z
-      → odd-out X Y Z ≡ leaves (x + y + c) (bit X * m + bit Y * m + 0) t
-  sum-leaves false false false p q r = let e = small (omega arith) in sym (inside _ (0 * m + 0 * m + 0) t (omega arith) (omega arith))
-  sum-leaves false false true p q r = let e = small (omega arith) in sym (over _ (0 * m + 0 * m + 0) t (omega arith))
-  sum-leaves false true false p q r = sym (inside _ (0 * m + 1 * m + 0) t (omega arith) (omega arith))
-  sum-leaves false true true p q r = sym (inside _ (0 * m + 1 * m + 0) t (omega arith) (omega arith))
-  sum-leaves true false false p q r = sym (inside _ (1 * m + 0 * m + 0) t (omega arith) (omega arith))
-  sum-leaves true false true p q r = sym (inside _ (1 * m + 0 * m + 0) t (omega arith) (omega arith))
-  sum-leaves true true false p q r = let e = large (omega arith) in sym (below _ (1 * m + 1 * m + 0) t (omega arith))
-  sum-leaves true true true p q r = let e = large (omega arith) in sym (inside _ (1 * m + 1 * m + 0) t (omega arith) (omega arith))
+  sum_leaves : (X Y Z : Bool) → TopIs X t x → TopIs Y t y → TopIs Z t z
+      → odd_out X Y Z ≡ leaves (x + y + c) (bit X * m + bit Y * m + 0) t
+  sum_leaves false false false p q r = let e = small (omega arith) in sym (inside _ (0 * m + 0 * m + 0) t (omega arith) (omega arith))
+  sum_leaves false false true p q r = let e = small (omega arith) in sym (over _ (0 * m + 0 * m + 0) t (omega arith))
+  sum_leaves false true false p q r = sym (inside _ (0 * m + 1 * m + 0) t (omega arith) (omega arith))
+  sum_leaves false true true p q r = sym (inside _ (0 * m + 1 * m + 0) t (omega arith) (omega arith))
+  sum_leaves true false false p q r = sym (inside _ (1 * m + 0 * m + 0) t (omega arith) (omega arith))
+  sum_leaves true false true p q r = sym (inside _ (1 * m + 0 * m + 0) t (omega arith) (omega arith))
+  sum_leaves true true false p q r = let e = large (omega arith) in sym (below _ (1 * m + 1 * m + 0) t (omega arith))
+  sum_leaves true true true p q r = let e = large (omega arith) in sym (inside _ (1 * m + 1 * m + 0) t (omega arith) (omega arith))
 
 -- z is x less y and a borrow c, mod m = 2 t
 module _ (t m x y c z : ℕ) (mt : t * 2 ≡ m) (hx : x < m) (hy : y < m) (hz : z < m) (hc : c ≤ 1)
     (enough : y + c ≤ x → x ≡ z + y + c) (short : x < y + c → x + m ≡ z + y + c) where
-  difference-leaves : (X Y Z : Bool) → TopIs X t x → TopIs Y t y → TopIs Z t z
-      → odd-out Z Y X ≡ leaves (x + bit Y * m + 0) (bit X * m + y + c) t
-  difference-leaves false false false p q r = sym (inside (x + 0 * m + 0) (0 * m + y + c) t (omega arith) (omega arith))
-  difference-leaves false false true p q r = sym (inside (x + 0 * m + 0) (0 * m + y + c) t (omega arith) (omega arith))
-  difference-leaves false true false p q r = let e = short (omega arith) in sym (inside (x + 1 * m + 0) (0 * m + y + c) t (omega arith) (omega arith))
-  difference-leaves false true true p q r = let e = short (omega arith) in sym (over (x + 1 * m + 0) (0 * m + y + c) t (omega arith))
-  difference-leaves true false false p q r = let e = enough (omega arith) in sym (below (x + 0 * m + 0) (1 * m + y + c) t (omega arith))
-  difference-leaves true false true p q r = let e = enough (omega arith) in sym (inside (x + 0 * m + 0) (1 * m + y + c) t (omega arith) (omega arith))
-  difference-leaves true true false p q r = sym (inside (x + 1 * m + 0) (1 * m + y + c) t (omega arith) (omega arith))
-  difference-leaves true true true p q r = sym (inside (x + 1 * m + 0) (1 * m + y + c) t (omega arith) (omega arith))
+  difference_leaves : (X Y Z : Bool) → TopIs X t x → TopIs Y t y → TopIs Z t z
+      → odd_out Z Y X ≡ leaves (x + bit Y * m + 0) (bit X * m + y + c) t
+  difference_leaves false false false p q r = sym (inside (x + 0 * m + 0) (0 * m + y + c) t (omega arith) (omega arith))
+  difference_leaves false false true p q r = sym (inside (x + 0 * m + 0) (0 * m + y + c) t (omega arith) (omega arith))
+  difference_leaves false true false p q r = let e = short (omega arith) in sym (inside (x + 1 * m + 0) (0 * m + y + c) t (omega arith) (omega arith))
+  difference_leaves false true true p q r = let e = short (omega arith) in sym (over (x + 1 * m + 0) (0 * m + y + c) t (omega arith))
+  difference_leaves true false false p q r = let e = enough (omega arith) in sym (below (x + 0 * m + 0) (1 * m + y + c) t (omega arith))
+  difference_leaves true false true p q r = let e = enough (omega arith) in sym (inside (x + 0 * m + 0) (1 * m + y + c) t (omega arith) (omega arith))
+  difference_leaves true true false p q r = sym (inside (x + 1 * m + 0) (1 * m + y + c) t (omega arith) (omega arith))
+  difference_leaves true true true p q r = sym (inside (x + 1 * m + 0) (1 * m + y + c) t (omega arith) (omega arith))
 
 -- ---- the carry at bit 4
 
@@ -89,10 +89,10 @@ last-digit true true false X Y e f = ap (λ (r : ℕ). eqb (bit_xor 0 r) 1) (eve
 last-digit true true true X Y e f = ap (λ (r : ℕ). eqb (bit_xor 0 r) 1) (odd X Y 1 (omega arith))
 
 -- so bit 4 of a sum tells of the carry from below
-carry-in : (x y c : ℕ) → c ≤ 1 → eqb (bit_xor (bit_xor (x / 16 % 2) (y / 16 % 2)) ((x + y + c) / 16 % 2)) 1 ≡ leb 16 (x % 16 + y % 16 + c)
-carry-in x y c hc =
-    rw (← bit-isSet 4 x, ← bit-isSet 4 y, split)
-    (last-digit (is_set 4 x) (is_set 4 y) (leb 16 low) (x / 16) (y / 16) (sym (bit-isSet 4 x)) (sym (bit-isSet 4 y)))
+carry_in : (x y c : ℕ) → c ≤ 1 → eqb (bit_xor (bit_xor (x / 16 % 2) (y / 16 % 2)) ((x + y + c) / 16 % 2)) 1 ≡ leb 16 (x % 16 + y % 16 + c)
+carry_in x y c hc =
+    rw (← bit-is_set 4 x, ← bit-is_set 4 y, split)
+    (last-digit (is_set 4 x) (is_set 4 y) (leb 16 low) (x / 16) (y / 16) (sym (bit-is_set 4 x)) (sym (bit-is_set 4 y)))
   where
     low : ℕ
     low = x % 16 + y % 16 + c
@@ -113,7 +113,7 @@ tested n r x y z carry =
       result = r;
       carry = carry;
       overflow = not (eqb (bit_and (bit_and (bit_xor x z) (bit_xor y z)) (top n)) 0);
-      auxCarry = not (eqb (bit_and (bit_xor (bit_xor x y) z) 16) 0);
+      aux_carry = not (eqb (bit_and (bit_xor (bit_xor x y) z) 16) 0);
     }
 
 -- a multiple of 32, as 2 ^ n is, leaves bit 4 of what it is added to alone
@@ -121,14 +121,14 @@ module _ (n : ℕ) (hn : 0 < n) (q : ℕ) (hq : 2 ^ n ≡ q * 32) (a b : ℕ) (c
   -- bit 4 of three numbers of which the third is the sum of the others, mod 2 ^ n
   bit4 : (x y z : ℕ) → (x + y + bit c) / 16 % 2 ≡ z / 16 % 2 → not (eqb (bit_and (bit_xor (bit_xor x y) z) 16) 0) ≡ leb 16 (x % 16 + y % 16 + bit c)
   bit4 x y z e =
-      mask-bit 4 (bit_xor (bit_xor x y) z)
-      ∙ ap (λ (d : ℕ). eqb d 1) (digit-xor 4 (bit_xor x y) z ∙ ap₂ bit_xor (digit-xor 4 x y) (sym e))
-      ∙ carry-in x y (bit c) (bit_le c)
+      mask_bit 4 (bit_xor (bit_xor x y) z)
+      ∙ ap (λ (d : ℕ). eqb d 1) (digit_xor 4 (bit_xor x y) z ∙ ap₂ bit_xor (digit_xor 4 x y) (sym e))
+      ∙ carry_in x y (bit c) (bit_le c)
 
-  pub adc-is : tested n ((a + b + bit c) % 2 ^ n) a b ((a + b + bit c) % 2 ^ n) (leb (2 ^ n) (a + b + bit c)) ≡ adc n a b c
+  pub adc_is : tested n ((a + b + bit c) % 2 ^ n) a b ((a + b + bit c) % 2 ^ n) (leb (2 ^ n) (a + b + bit c)) ≡ adc n a b c
   unfolding adc
-  adc-is =
-      λ i. record { result = r; carry = leb (2 ^ n) u; overflow = overflows i; auxCarry = bit4 a b r (by_size (leb (2 ^ n) u) refl) i }
+  adc_is =
+      λ i. record { result = r; carry = leb (2 ^ n) u; overflow = overflows i; aux_carry = bit4 a b r (by_size (leb (2 ^ n) u) refl) i }
     where
       u : ℕ
       u = a + b + bit c
@@ -143,20 +143,20 @@ module _ (n : ℕ) (hn : 0 < n) (q : ℕ) (hq : 2 ^ n ≡ q * 32) (a b : ℕ) (c
       hu = omega (arith, bit_le c)
 
       by_size : (s : Bool) → leb (2 ^ n) u ≡ s → u / 16 % 2 ≡ r / 16 % 2
-      by_size true e = let f = rest-large u (2 ^ n) hu (leb-true (2 ^ n) u e) in omega arith
-      by_size false e = ap (λ (x : ℕ). x / 16 % 2) (rest-small u (2 ^ n) (leb-false (2 ^ n) u e))
+      by_size true e = let f = rest_large u (2 ^ n) hu (leb-true (2 ^ n) u e) in omega arith
+      by_size false e = ap (λ (x : ℕ). x / 16 % 2) (rest_small u (2 ^ n) (leb-false (2 ^ n) u e))
 
-      overflows : not (eqb (bit_and (bit_and (bit_xor a r) (bit_xor b r)) (top n)) 0) ≡ not (fitsSigned n (signed n a +ℤ signed n b +ℤ pos (bit c)))
+      overflows : not (eqb (bit_and (bit_and (bit_xor a r) (bit_xor b r)) (top n)) 0) ≡ not (fits_signed n (signed n a +ℤ signed n b +ℤ pos (bit c)))
       overflows =
-          odd-out-is n a b r hn ha hb hr
-          ∙ sum-leaves (top n) (2 ^ n) a b (bit c) r (top-twice n hn) ha hb hr (bit_le c) (rest-small u (2 ^ n)) (rest-large u (2 ^ n) hu)
-          (topSet n a) (topSet n b) (topSet n r) (top-is n a) (top-is n b) (top-is n r)
-          ∙ ap not (sym (fits-diff n (diff-add (diff-add (diff-signed n a) (diff-signed n b)) (above (bit c) (bit c) 0 (omega arith)))))
+          odd_out_is n a b r hn ha hb hr
+          ∙ sum_leaves (top n) (2 ^ n) a b (bit c) r (top_twice n hn) ha hb hr (bit_le c) (rest_small u (2 ^ n)) (rest_large u (2 ^ n) hu)
+          (top_set n a) (top_set n b) (top_set n r) (top_is n a) (top_is n b) (top_is n r)
+          ∙ ap not (sym (fits_diff n (diff_add (diff_add (diff_signed n a) (diff_signed n b)) (above (bit c) (bit c) 0 (omega arith)))))
 
-  pub sbb-is : tested n ((2 ^ n + a - (b + bit c)) % 2 ^ n) ((2 ^ n + a - (b + bit c)) % 2 ^ n) b a (ltb a (b + bit c)) ≡ sbb n a b c
+  pub sbb_is : tested n ((2 ^ n + a - (b + bit c)) % 2 ^ n) ((2 ^ n + a - (b + bit c)) % 2 ^ n) b a (ltb a (b + bit c)) ≡ sbb n a b c
   unfolding sbb
-  sbb-is =
-      λ i. record { result = r; carry = ltb a (b + bit c); overflow = overflows i; auxCarry = (bit4 r b a (by_size (ltb a (b + bit c)) refl).0 ∙ borrows) i }
+  sbb_is =
+      λ i. record { result = r; carry = ltb a (b + bit c); overflow = overflows i; aux_carry = (bit4 r b a (by_size (ltb a (b + bit c)) refl).0 ∙ borrows) i }
     where
       w : ℕ
       w = 2 ^ n + a - (b + bit c)
@@ -168,10 +168,10 @@ module _ (n : ℕ) (hn : 0 < n) (q : ℕ) (hq : 2 ^ n ≡ q * 32) (a b : ℕ) (c
       hr = mod-lt w (pow_pos n)
 
       enough : b + bit c ≤ a → a ≡ r + b + bit c
-      enough h = let hc = bit_le c in omega (arith, rest-large w (2 ^ n) (omega arith) (omega arith))
+      enough h = let hc = bit_le c in omega (arith, rest_large w (2 ^ n) (omega arith) (omega arith))
 
       short : a < b + bit c → a + 2 ^ n ≡ r + b + bit c
-      short h = let hc = bit_le c in omega (arith, rest-small w (2 ^ n) (omega arith))
+      short h = let hc = bit_le c in omega (arith, rest_small w (2 ^ n) (omega arith))
 
       by_size : (s : Bool) → ltb a (b + bit c) ≡ s → ((r + b + bit c) / 16 % 2 ≡ a / 16 % 2) × ((r + b + bit c) % 16 ≡ a % 16)
       by_size true e = let f = short (ltb-true a (b + bit c) e) in omega arith
@@ -184,11 +184,11 @@ module _ (n : ℕ) (hn : 0 < n) (q : ℕ) (hq : 2 ^ n ≡ q * 32) (a b : ℕ) (c
           (λ t. lt-ltb (a % 16) (b % 16 + bit c) (omega (arith, leb-true 16 (r % 16 + b % 16 + bit c) t)))
           (λ t. le-ltb (a % 16) (b % 16 + bit c) (omega (arith, leb-false 16 (r % 16 + b % 16 + bit c) t)))
 
-      overflows : not (eqb (bit_and (bit_and (bit_xor r a) (bit_xor b a)) (top n)) 0) ≡ not (fitsSigned n (signed n a -ℤ signed n b -ℤ pos (bit c)))
+      overflows : not (eqb (bit_and (bit_and (bit_xor r a) (bit_xor b a)) (top n)) 0) ≡ not (fits_signed n (signed n a -ℤ signed n b -ℤ pos (bit c)))
       overflows =
-          odd-out-is n r b a hn hr hb ha
-          ∙ difference-leaves (top n) (2 ^ n) a b (bit c) r (top-twice n hn) ha hb hr (bit_le c) enough short (topSet n a) (topSet n b) (topSet n r) (top-is n a) (top-is n b) (top-is n r)
-          ∙ ap not (sym (fits-diff n (diff-add (diff-add (diff-signed n a) (diff-neg (diff-signed n b))) (diff-neg (above (bit c) (bit c) 0 (omega arith))))))
+          odd_out_is n r b a hn hr hb ha
+          ∙ difference_leaves (top n) (2 ^ n) a b (bit c) r (top_twice n hn) ha hb hr (bit_le c) enough short (top_set n a) (top_set n b) (top_set n r) (top_is n a) (top_is n b) (top_is n r)
+          ∙ ap not (sym (fits_diff n (diff_add (diff_add (diff_signed n a) (diff_neg (diff_signed n b))) (diff_neg (above (bit c) (bit c) 0 (omega arith))))))
 
 -- NEG leaves what is taken from 0
 pub neg-result : (n x : ℕ) {r : ResultCoa} → r ≡ neg n x → r.result ≡ negated n x
@@ -199,22 +199,22 @@ neg-result n x e = ap (λ (r : ResultCoa). r.result) e ∙ ap (λ (y : ℕ). y %
     taken = omega arith
 
 -- 0 taken away leaves the number and sets no flag
-pub sub-nothing : (n a : ℕ) → 0 < n → a < 2 ^ n → sub n a 0 ≡ record { result = a; carry = false; overflow = false; auxCarry = false }
+pub sub_nothing : (n a : ℕ) → 0 < n → a < 2 ^ n → sub n a 0 ≡ record { result = a; carry = false; overflow = false; aux_carry = false }
 unfolding sbb
-sub-nothing n a hn ha = λ i. record { result = whole i; carry = none a i; overflow = fits i; auxCarry = none (a % 16) i }
+sub_nothing n a hn ha = λ i. record { result = whole i; carry = none a i; overflow = fits i; aux_carry = none (a % 16) i }
   where
     whole : (2 ^ n + a - (0 + 0)) % 2 ^ n ≡ a
-    whole = omega (arith, rest-large (2 ^ n + a - (0 + 0)) (2 ^ n) (omega arith) (omega arith))
+    whole = omega (arith, rest_large (2 ^ n + a - (0 + 0)) (2 ^ n) (omega arith) (omega arith))
 
     none : (x : ℕ) → ltb x (0 + 0) ≡ false
     none x = le-ltb x (0 + 0) (omega arith)
 
     small : (s t : Bool) → TopIs s (top n) a → TopIs t (top n) 0 → leaves (a + bit t * 2 ^ n + 0) (bit s * 2 ^ n + 0 + bit false) (top n) ≡ false
     small s true hs ht = absurd (omega (arith, pow_pos (n - 1)))
-    small true false hs ht = inside _ _ (top n) (omega (arith, top-twice n hn)) (omega (arith, top-twice n hn))
+    small true false hs ht = inside _ _ (top n) (omega (arith, top_twice n hn)) (omega (arith, top_twice n hn))
     small false false hs ht = inside _ _ (top n) (omega arith) (omega arith)
 
-    fits : not (fitsSigned n (signed n a -ℤ signed n 0 -ℤ pos (bit false))) ≡ false
+    fits : not (fits_signed n (signed n a -ℤ signed n 0 -ℤ pos (bit false))) ≡ false
     fits =
-        ap not (fits-diff n (diff-add (diff-add (diff-signed n a) (diff-neg (diff-signed n 0))) (diff-neg (above (bit false) (bit false) 0 (omega arith)))))
-        ∙ small (topSet n a) (topSet n 0) (top-is n a) (top-is n 0)
+        ap not (fits_diff n (diff_add (diff_add (diff_signed n a) (diff_neg (diff_signed n 0))) (diff_neg (above (bit false) (bit false) 0 (omega arith)))))
+        ∙ small (top_set n a) (top_set n 0) (top_is n a) (top_is n 0)

@@ -6,24 +6,24 @@ use Prim.Native.Nat.{ℕ, zero, suc, ◌+◌, ◌-◌, ◌*◌, ◌/◌, ◌%◌
 use native.Mathlib.{Nat.pow-suc, Nat.pow-succ', Nat.mod-one, Nat.div-one, Nat.mod-lt, Nat.mod-eq_of_lt, Nat.div-eq_of_lt, Nat.div-div-eq-div-mul, Omega.arith}
 use lib.{Arith.digits_lt, Arith.digits_mod, Arith.mod-mul, Dec.lit<, Pow.pow-add, Pow.pow_pos, Pow.shr_lt}
 use borrow.Author.Tests.{le-leb, lt-leb}
-use Rattle.numbers.specs.Numbers.{bit, is_set, top, topSet}
-use Rattle.numbers.proofs.{Powers.top-twice, BitLaws.bit-isSet}
+use Rattle.numbers.specs.Numbers.{bit, is_set, top, top_set}
+use Rattle.numbers.proofs.{Powers.top_twice, BitLaws.bit-is_set}
 
 abbrev pub turned : ℕ → ℕ → ℕ → ℕ
 turned u k w = w % 2 ^ k * 2 ^ u + w / 2 ^ k
 
-pub none-turned : (m w : ℕ) → turned m 0 w ≡ w
-none-turned m w = ap (λ (d : ℕ). d * 2 ^ m + w / 2 ^ 0) (mod-one w) ∙ omega (arith, div-one w)
+pub none_turned : (m w : ℕ) → turned m 0 w ≡ w
+none_turned m w = ap (λ (d : ℕ). d * 2 ^ m + w / 2 ^ 0) (mod-one w) ∙ omega (arith, div-one w)
 
-pub all-turned : (m w : ℕ) → w < 2 ^ m → turned 0 m w ≡ w
-all-turned m w h = omega (arith, mod-eq_of_lt h, div-eq_of_lt h)
+pub all_turned : (m w : ℕ) → w < 2 ^ m → turned 0 m w ≡ w
+all_turned m w h = omega (arith, mod-eq_of_lt h, div-eq_of_lt h)
 
 turned_lt : (u k w : ℕ) → w < 2 ^ (u + k) → turned u k w < 2 ^ (u + k)
 turned_lt u k w h = omega (arith, pow-add 2 u k, digits_lt (mod-lt w (pow_pos k)) (shr_lt u k h))
 
 -- the digit that stands below moves above: one place more is turned
-digit-turns : (u k w : ℕ) → (turned (suc u) k w % 2 * 2 ^ (suc u + k) + turned (suc u) k w) / 2 ≡ turned u (suc k) w
-digit-turns u k w = by (w / 2 ^ k % 2) (mod-lt (w / 2 ^ k) (lit< tt)) refl
+digit_turns : (u k w : ℕ) → (turned (suc u) k w % 2 * 2 ^ (suc u + k) + turned (suc u) k w) / 2 ≡ turned u (suc k) w
+digit_turns u k w = by (w / 2 ^ k % 2) (mod-lt (w / 2 ^ k) (lit< tt)) refl
   where
     above : 2 ^ suc u ≡ 2 ^ u * 2
     above = pow-suc 2 u
@@ -54,29 +54,29 @@ digit-turns u k w = by (w / 2 ^ k % 2) (mod-lt (w / 2 ^ k) (lit< tt)) refl
 -- a step of ROR on a number that is turned, in the words of the definition
 pub right-turn : (u k w : ℕ) → (bit (is_set 0 (turned (suc u) k w)) * 2 ^ (suc u + k) + turned (suc u) k w) / 2 ≡ turned u (suc k) w
 right-turn u k w =
-    ap (λ (d : ℕ). (d * 2 ^ (suc u + k) + turned (suc u) k w) / 2) (bit-isSet 0 (turned (suc u) k w) ∙ ap (λ (x : ℕ). x % 2) (div-one (turned (suc u) k w)))
-    ∙ digit-turns u k w
+    ap (λ (d : ℕ). (d * 2 ^ (suc u + k) + turned (suc u) k w) / 2) (bit-is_set 0 (turned (suc u) k w) ∙ ap (λ (x : ℕ). x % 2) (div-one (turned (suc u) k w)))
+    ∙ digit_turns u k w
 
 -- what a step of ROR did a step of ROL undoes
-undone : (m z : ℕ) → 0 < m → z < 2 ^ m → ((bit (is_set 0 z) * 2 ^ m + z) / 2 * 2 + bit (topSet m ((bit (is_set 0 z) * 2 ^ m + z) / 2))) % 2 ^ m ≡ z
-undone m z hm h = by (is_set 0 z) (bit-isSet 0 z ∙ ap (λ (x : ℕ). x % 2) (div-one z))
+undone : (m z : ℕ) → 0 < m → z < 2 ^ m → ((bit (is_set 0 z) * 2 ^ m + z) / 2 * 2 + bit (top_set m ((bit (is_set 0 z) * 2 ^ m + z) / 2))) % 2 ^ m ≡ z
+undone m z hm h = by (is_set 0 z) (bit-is_set 0 z ∙ ap (λ (x : ℕ). x % 2) (div-one z))
   where
-    by : (b : Bool) → bit b ≡ z % 2 → ((bit b * 2 ^ m + z) / 2 * 2 + bit (topSet m ((bit b * 2 ^ m + z) / 2))) % 2 ^ m ≡ z
+    by : (b : Bool) → bit b ≡ z % 2 → ((bit b * 2 ^ m + z) / 2 * 2 + bit (top_set m ((bit b * 2 ^ m + z) / 2))) % 2 ^ m ≡ z
     by true e =
-        let t = top-twice m hm in
+        let t = top_twice m hm in
         rw (le-leb (top m) ((1 * 2 ^ m + z) / 2) (omega arith))
         (let all : (1 * 2 ^ m + z) / 2 * 2 + 1 ≡ 1 * 2 ^ m + z = omega arith in
         ap (λ (x : ℕ). x % 2 ^ m) all ∙ digits_mod 1 h)
     by false e =
-        let t = top-twice m hm in
+        let t = top_twice m hm in
         rw (lt-leb (top m) ((0 * 2 ^ m + z) / 2) (omega arith))
         (let all : (0 * 2 ^ m + z) / 2 * 2 + 0 ≡ z = omega arith in
         ap (λ (x : ℕ). x % 2 ^ m) all ∙ mod-eq_of_lt h)
 
 -- a step of ROL on a number that is turned: one place less
-pub left-turn : (u k w : ℕ) → w < 2 ^ (suc u + k) → (turned u (suc k) w * 2 + bit (topSet (suc u + k) (turned u (suc k) w))) % 2 ^ (suc u + k) ≡ turned (suc u) k w
+pub left-turn : (u k w : ℕ) → w < 2 ^ (suc u + k) → (turned u (suc k) w * 2 + bit (top_set (suc u + k) (turned u (suc k) w))) % 2 ^ (suc u + k) ≡ turned (suc u) k w
 left-turn u k w h =
-    ap (λ (y : ℕ). (y * 2 + bit (topSet (suc u + k) y)) % 2 ^ (suc u + k)) (sym (right-turn u k w)) ∙ undone (suc u + k) (turned (suc u) k w) (omega arith) (turned_lt (suc u) k w h)
+    ap (λ (y : ℕ). (y * 2 + bit (top_set (suc u + k) y)) % 2 ^ (suc u + k)) (sym (right-turn u k w)) ∙ undone (suc u + k) (turned (suc u) k w) (omega arith) (turned_lt (suc u) k w h)
 
 -- A sequence that goes from f m 0 by f (m - 1) 1 to f 0 m, which is f m 0 again, is at the remainder of its count.
 module _ (m : ℕ) (hm : 0 < m) (f : ℕ → ℕ → ℕ) (v : ℕ → ℕ) (start : v 0 ≡ f m 0) (round : f 0 m ≡ f m 0)

@@ -18,4 +18,4 @@ pub record ResultCoa : Type 0 where
   pub result : ℕ
   pub carry : Bool
   pub overflow : Bool
-  pub auxCarry : Bool
+  pub aux_carry : Bool

@@ -2,39 +2,39 @@
 -- Assumes nothing.
 use Rattle.std.specs.Prelude.{Bool, false, ℕ, zero, suc, ◌-◌}
 use Rattle.std.specs.Bool.{xor}
-use Rattle.numbers.specs.Numbers.{is_set, topSet}
+use Rattle.numbers.specs.Numbers.{is_set, top_set}
 use Rattle.alu.specs.Result.{ResultC, ResultCo, ResultCoa}
 use Rattle.alu.specs.Step.{Shift, Shl, Shr, Sar, Rol, Ror, Rcl, Rcr, Step, before, steps}
 
 -- a flag of the last step; a count of 0 makes none, and the flag is false
-abbrev pub ofLast : ℕ → Bool → Bool
-ofLast zero flag = false
-ofLast (suc k) flag = flag
+abbrev pub of_last : ℕ → Bool → Bool
+of_last zero flag = false
+of_last (suc k) flag = flag
 
 -- O leftward: C xor the new top bit
-abbrev pub leftO : ℕ → ℕ → Step → ResultCo
-leftO n count s = record { result = s.value; carry = s.carry; overflow = ofLast count (xor s.carry (topSet n s.value)) }
+abbrev pub left_o : ℕ → ℕ → Step → ResultCo
+left_o n count s = record { result = s.value; carry = s.carry; overflow = of_last count (xor s.carry (top_set n s.value)) }
 
 -- O rightward: the new result's top bit xor the bit below it
-abbrev pub rightO : ℕ → ℕ → Step → ResultCo
-rightO n count s =
-    record { result = s.value; carry = s.carry; overflow = ofLast count (xor (topSet n s.value) (is_set (n - 2) s.value)) }
+abbrev pub right_o : ℕ → ℕ → Step → ResultCo
+right_o n count s =
+    record { result = s.value; carry = s.carry; overflow = of_last count (xor (top_set n s.value) (is_set (n - 2) s.value)) }
 
 -- SHR and SAR set C only
-abbrev pub carryOnly : Step → ResultC
-carryOnly s = record { result = s.value; carry = s.carry }
+abbrev pub carry_only : Step → ResultC
+carry_only s = record { result = s.value; carry = s.carry }
 
 -- SHL, ROL and RCL: C and O of the last step
 unfoldable pub leftward : ℕ → Shift → ℕ → ℕ → Bool → ResultCo
-leftward n shift x count c = leftO n count (steps n shift count (before x c))
+leftward n shift x count c = left_o n count (steps n shift count (before x c))
 
 -- ROR and RCR: C and O of the last step
 unfoldable pub rightward : ℕ → Shift → ℕ → ℕ → Bool → ResultCo
-rightward n shift x count c = rightO n count (steps n shift count (before x c))
+rightward n shift x count c = right_o n count (steps n shift count (before x c))
 
 -- SHR and SAR: C of the last step
 unfoldable pub downward : ℕ → Shift → ℕ → ℕ → ResultC
-downward n shift x count = carryOnly (steps n shift count (before x false))
+downward n shift x count = carry_only (steps n shift count (before x false))
 
 -- RCL and RCR take C in; the others begin with C false, and return it so where the count is 0
 abbrev pub shl : ℕ → ℕ → ℕ → ResultCo
@@ -65,10 +65,10 @@ abbrev pub sar : ℕ → ℕ → ℕ → ResultC
 sar n x count = downward n Sar x count
 
 -- op 0C: SHL, and A is bit 4 of the last result
-abbrev pub withA : ℕ → ResultCo → ResultCoa
-withA count r =
-    record { result = r.result; carry = r.carry; overflow = r.overflow; auxCarry = ofLast count (is_set 4 r.result) }
+abbrev pub with_a : ℕ → ResultCo → ResultCoa
+with_a count r =
+    record { result = r.result; carry = r.carry; overflow = r.overflow; aux_carry = of_last count (is_set 4 r.result) }
 
 -- SHL that also sets A
-abbrev pub shlAf : ℕ → ℕ → ℕ → ResultCoa
-shlAf n x count = withA count (shl n x count)
+abbrev pub shl_af : ℕ → ℕ → ℕ → ResultCoa
+shl_af n x count = with_a count (shl n x count)

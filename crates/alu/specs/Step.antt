@@ -1,7 +1,7 @@
 -- A single step of a shift or rotate of n bits, and the step repeated.
 -- Assumes nothing.
 use Rattle.std.specs.Prelude.{Bool, false, ℕ, zero, suc, ◌+◌, ◌*◌, ◌/◌, ◌%◌, ◌^◌}
-use Rattle.numbers.specs.Numbers.{bit, is_set, topSet}
+use Rattle.numbers.specs.Numbers.{bit, is_set, top_set}
 
 -- the seven that differ in how a bit moves and what enters
 pub data Shift : Type 0 where
@@ -14,7 +14,7 @@ pub record Step : Type 0 where
 
 -- leftward: a bit enters below, and the top bit leaves
 unfoldable pub left : ℕ → Bool → ℕ → Step
-left n enters x = record { value = (x * 2 + bit enters) % 2 ^ n; carry = topSet n x }
+left n enters x = record { value = (x * 2 + bit enters) % 2 ^ n; carry = top_set n x }
 
 -- rightward: a bit enters above, and bit 0 leaves
 unfoldable pub right : ℕ → Bool → ℕ → Step
@@ -24,8 +24,8 @@ right n enters x = record { value = (bit enters * 2 ^ n + x) / 2; carry = is_set
 unfoldable pub step : ℕ → Shift → Step → Step
 step n Shl s = left n false s.value
 step n Shr s = right n false s.value
-step n Sar s = right n (topSet n s.value) s.value
-step n Rol s = left n (topSet n s.value) s.value
+step n Sar s = right n (top_set n s.value) s.value
+step n Rol s = left n (top_set n s.value) s.value
 step n Ror s = right n (is_set 0 s.value) s.value
 step n Rcl s = left n s.carry s.value
 step n Rcr s = right n s.carry s.value

@@ -18,7 +18,7 @@ abbrev pub co8 : ResultCo8 → ResultCo
 co8 r = record { result = r.result; carry = r.carry; overflow = r.overflow }
 
 abbrev pub coa8 : ResultCoa8 → ResultCoa
-coa8 r = record { result = r.result; carry = r.carry; overflow = r.overflow; auxCarry = r.aux_carry }
+coa8 r = record { result = r.result; carry = r.carry; overflow = r.overflow; aux_carry = r.aux_carry }
 
 abbrev pub step8 : Step8 → Step
 step8 s = record { value = s.value; carry = s.carry }
@@ -30,7 +30,7 @@ abbrev pub co16 : ResultCo16 → ResultCo
 co16 r = record { result = r.result; carry = r.carry; overflow = r.overflow }
 
 abbrev pub coa16 : ResultCoa16 → ResultCoa
-coa16 r = record { result = r.result; carry = r.carry; overflow = r.overflow; auxCarry = r.aux_carry }
+coa16 r = record { result = r.result; carry = r.carry; overflow = r.overflow; aux_carry = r.aux_carry }
 
 abbrev pub step16 : Step16 → Step
 step16 s = record { value = s.value; carry = s.carry }

@@ -2,7 +2,7 @@
 // number has one bit more than its operation, above the value or below it: what stands there after the
 // move is C.
 ghost use Rattle.std.specs.Prelude.{false, ◌≡◌, min, ◌+◌, ◌-◌, ◌*◌, ◌/◌, ◌%◌, ◌^◌, ◌≤◌, ◌<◌};
-ghost use Rattle.numbers.specs.Numbers.{bit, topSet};
+ghost use Rattle.numbers.specs.Numbers.{bit, top_set};
 ghost use Rattle.alu.specs.Step.{Shl, Shr, Sar, Rol, Ror, before, steps};
 
 // The largest number of so many bits.
@@ -52,7 +52,7 @@ fn window(bits: u32, upper: u64, lower: u64, place: u32) -> u64
 // The top bit of a number, as a digit.
 fn sign(bits: u32, number: u64) -> u64
     requires { (number < 2 ^ bits) × (8 ≤ bits) × (bits ≤ 17) }
-    ensures { result ≡ bit (topSet bits number) }
+    ensures { result ≡ bit (top_set bits number) }
 {
     number >> (bits - 1)
 }

@@ -1,7 +1,7 @@
 // SHL, SHL with A, SHR and SAR. C is one bit more: above the value leftward, and rightward below it, for
 // which the value is doubled first.
 ghost use Rattle.std.specs.Prelude.{◌≡◌};
-ghost use Rattle.alu.specs.Shift.{shl, shlAf, shr, sar};
+ghost use Rattle.alu.specs.Shift.{shl, shl_af, shr, sar};
 ghost use Rattle.alu.specs.Views.{c8, c16, co8, co16, coa8, coa16};
 
 use crate::result::{ResultC8, ResultC16, ResultCo8, ResultCo16, ResultCoa8, ResultCoa16};
@@ -17,7 +17,7 @@ pub fn alu_shl8(value: u8, count: u8) -> ResultCo8
 
 // One opcode of the chip sets A too, to bit 4 of the last result.
 pub fn alu_shl_af8(value: u8, count: u8) -> ResultCoa8
-    ensures { coa8 result ≡ shlAf 8 value count }
+    ensures { coa8 result ≡ shl_af 8 value count }
 {
     let shifted = alu_shl8(value, count);
     ResultCoa8 {
@@ -57,7 +57,7 @@ pub fn alu_shl16(value: u16, count: u8) -> ResultCo16
 
 // One opcode of the chip sets A too, to bit 4 of the last result.
 pub fn alu_shl_af16(value: u16, count: u8) -> ResultCoa16
-    ensures { coa16 result ≡ shlAf 16 value count }
+    ensures { coa16 result ≡ shl_af 16 value count }
 {
     let shifted = alu_shl16(value, count);
     ResultCoa16 {

@@ -5,12 +5,12 @@ use native.Mathlib.Omega.{arith}
 use lib.Dec.{leb, eqb}
 use borrow.Author.Tests.{leb-true, leb-false, lt-ltb, le-leb, lt-leb}
 use Rattle.numbers.specs.Numbers.{is_set}
-use Rattle.request.specs.{Operation.ops, Operation.listed, Operation.checked, Operation.operationOf, Limits.xMost, Limits.yMost, declared.operation.Operation.Operation}
+use Rattle.request.specs.{Operation.ops, Operation.listed, Operation.checked, Operation.operation_of, Limits.x_most, Limits.y_most, declared.operation.Operation.Operation}
 use Rattle.request.specs.declared.operation.Operation.TheVariants.{Alu as OfAlu, Multiply as OfMultiply, Divide as OfDivide, Decimal as OfDecimal}
 use Rattle.request.specs.declared.decode.Decoded.{Decoded}
 use Rattle.request.specs.declared.decode.Decoded.TheVariants.{Operation as Names, Unlisted as NotListed, WrongMode as BadMode}
 use Rattle.request.proofs.RequestLaws.{below, at, over, above}
-use Rattle.answer.specs.{Charted.bits, Table.unlisted, Table.wrongMode, Table.width_by, Table.xBits, Table.yBits}
+use Rattle.answer.specs.{Charted.bits, Table.unlisted, Table.wrong_mode, Table.width_by, Table.x_bits, Table.y_bits}
 
 -- a divide has op 11, and the table's width and sign rule; nothing else has op 11
 abbrev pub divides : ℕ → ℕ → Operation → Bool
@@ -22,37 +22,37 @@ divides op mode (OfDecimal decimal) = not (eqb op 0x11)
 -- listed or not, mode wrong or not, and the limits
 abbrev pub agrees : ℕ → ℕ → Decoded → Bool
 agrees op mode NotListed = unlisted op
-agrees op mode BadMode = not (unlisted op) && wrongMode op mode
+agrees op mode BadMode = not (unlisted op) && wrong_mode op mode
 agrees op mode (Names o) =
-    not (wrongMode op mode) && not (unlisted op) && eqb (xMost o + 1) (2 ^ xBits op mode) && eqb (yMost o + 1) (2 ^ yBits op mode) && divides op mode o
+    not (wrong_mode op mode) && not (unlisted op) && eqb (x_most o + 1) (2 ^ x_bits op mode) && eqb (y_most o + 1) (2 ^ y_bits op mode) && divides op mode o
 
 -- ops to 1C and modes to 08, by computation
-computed : below (λ op. below (λ mode. agrees op mode (operationOf op mode)) 9) 0x1D ≡ true
-unfolding operationOf listed ops
+computed : below (λ op. below (λ mode. agrees op mode (operation_of op mode)) 9) 0x1D ≡ true
+unfolding operation_of listed ops
 computed = refl
 
-listed-agree : (op mode : ℕ) → op < 0x1D → mode < 9 → agrees op mode (operationOf op mode) ≡ true
-listed-agree op mode o m =
-    at (λ m. agrees op m (operationOf op m)) 9 (at (λ o. below (λ m. agrees o m (operationOf o m)) 9) 0x1D computed op o) mode m
+listed_agree : (op mode : ℕ) → op < 0x1D → mode < 9 → agrees op mode (operation_of op mode) ≡ true
+listed_agree op mode o m =
+    at (λ m. agrees op m (operation_of op m)) 9 (at (λ o. below (λ m. agrees o m (operation_of o m)) 9) 0x1D computed op o) mode m
 
-over-agrees : (op mode : ℕ) → 0x07 < mode → (n : Decoded) → agrees op 0x08 n ≡ true → agrees op mode n ≡ true
-over-agrees op mode h NotListed e = e
-over-agrees op mode h BadMode e = rw (lt-ltb 0x07 mode h) e
-over-agrees op mode h (Names o) e = absurd (false≢true e)
+over_agrees : (op mode : ℕ) → 0x07 < mode → (n : Decoded) → agrees op 0x08 n ≡ true → agrees op mode n ≡ true
+over_agrees op mode h NotListed e = e
+over_agrees op mode h BadMode e = rw (lt-ltb 0x07 mode h) e
+over_agrees op mode h (Names o) e = absurd (false≢true e)
 
 -- an op above 1C is not listed
-above-agrees : (op mode : ℕ) → 0x1C < op → agrees op mode (operationOf op mode) ≡ true
-unfolding operationOf
-above-agrees op mode h =
+above_agrees : (op mode : ℕ) → 0x1C < op → agrees op mode (operation_of op mode) ≡ true
+unfolding operation_of
+above_agrees op mode h =
     rw (← above op h, lt-leb op 0x0C (omega arith), le-leb 0x10 op (omega arith), lt-leb op 0x11 (omega arith), le-leb 0x18 op (omega arith), lt-leb op 0x1C h)
 
-pub agreed : (op mode : ℕ) → agrees op mode (operationOf op mode) ≡ true
-unfolding operationOf
+pub agreed : (op mode : ℕ) → agrees op mode (operation_of op mode) ≡ true
+unfolding operation_of
 agreed op mode = by (leb op 0x1C) (leb mode 0x08) refl refl
   where
-    by : (a b : Bool) → leb op 0x1C ≡ a → leb mode 0x08 ≡ b → agrees op mode (operationOf op mode) ≡ true
-    by false b ea eb = above-agrees op mode (leb-false op 0x1C ea)
-    by true true ea eb = listed-agree op mode (omega (arith, leb-true op 0x1C ea)) (omega (arith, leb-true mode 0x08 eb))
+    by : (a b : Bool) → leb op 0x1C ≡ a → leb mode 0x08 ≡ b → agrees op mode (operation_of op mode) ≡ true
+    by false b ea eb = above_agrees op mode (leb-false op 0x1C ea)
+    by true true ea eb = listed_agree op mode (omega (arith, leb-true op 0x1C ea)) (omega (arith, leb-true mode 0x08 eb))
     by true false ea eb =
         let h = leb-false mode 0x08 eb in
-        rw (← over (listed op) mode (omega arith)) (over-agrees op mode (omega arith) (checked (listed op) 0x08) (listed-agree op 0x08 (omega (arith, leb-true op 0x1C ea)) (omega arith)))
+        rw (← over (listed op) mode (omega arith)) (over_agrees op mode (omega arith) (checked (listed op) 0x08) (listed_agree op 0x08 (omega (arith, leb-true op 0x1C ea)) (omega arith)))

@@ -8,19 +8,19 @@ use Rattle.answer.specs.Charted.{charted}
 use Rattle.answer.specs.declared.answer.Answer.{Answer}
 
 -- an admitted request by the charts, else the status of its refusal
-abbrev pub ofJudged : Judged → Answer
-ofJudged (Admitted request) = charted request
-ofJudged Unlisted = zeros 3
-ofJudged WrongMode = zeros 4
-ofJudged TooLarge = zeros 5
+abbrev pub of_judged : Judged → Answer
+of_judged (Admitted request) = charted request
+of_judged Unlisted = zeros 3
+of_judged WrongMode = zeros 4
+of_judged TooLarge = zeros 5
 
 -- judged, then answered
 unfoldable pub asked : Raw → Answer
-asked r = ofJudged (judged r)
+asked r = of_judged (judged r)
 
 -- in parts: the status
-abbrev pub statusOf : ℕ → ℕ → ℕ → ℕ → ℕ → ℕ
-statusOf op mode flags x y = (asked (raw op mode flags x y)).status
+abbrev pub status_of : ℕ → ℕ → ℕ → ℕ → ℕ → ℕ
+status_of op mode flags x y = (asked (raw op mode flags x y)).status
 
 -- flags, steps, R and S, in the order of an answer line
 abbrev pub parts : Answer → List ℕ

@@ -1,17 +1,17 @@
 -- What an admitted request is answered, by the charts, and where its results stand. Assumes nothing.
 use Rattle.std.specs.Prelude.{cond, ℕ, ◌/◌, ◌%◌}
-use Rattle.flags.specs.Word.{flags_of, word_of, setC, setCO, setCOA}
+use Rattle.flags.specs.Word.{flags_of, word_of, set_c, set_co, set_coa}
 use Rattle.flags.specs.declared.word.Flags.{Flags}
 use Rattle.alu.specs.Result.{ResultC, ResultCo, ResultCoa}
 use Rattle.alu.specs.Sum.{add, adc, sub, sbb, neg}
-use Rattle.alu.specs.Shift.{shl, shr, sar, rol, ror, rcl, rcr, shlAf}
+use Rattle.alu.specs.Shift.{shl, shr, sar, rol, ror, rcl, rcr, shl_af}
 use Rattle.multiply.specs.Routines.{Multiplied}
 use Rattle.multiply.specs.Multiply.{multiply}
 use Rattle.divide.specs.Divide.{DivideOutcome, Divided, accepted, refused, divide}
 use Rattle.divide.specs.declared.div.Refusal.{Refusal}
 use Rattle.divide.specs.declared.div.Refusal.TheVariants.{ZeroDivisor, TooWide, SignRange}
-use Rattle.bcd.specs.Ascii.{aaaOf, aasOf, aadOf}
-use Rattle.bcd.specs.Decimal.{daaOf, dasOf}
+use Rattle.bcd.specs.Ascii.{aaa_of, aas_of, aad_of}
+use Rattle.bcd.specs.Decimal.{daa_of, das_of}
 use Rattle.bcd.specs.declared.adjust.Adjusted.{Adjusted}
 use Rattle.request.specs.declared.operation.Width.{Width}
 use Rattle.request.specs.declared.operation.Width.TheVariants.{Byte, Word}
@@ -23,7 +23,7 @@ use Rattle.request.specs.declared.operation.Decimal.TheVariants.{Aaa, Aas, Aad, 
 use Rattle.request.specs.declared.operation.Operation.{Operation}
 use Rattle.request.specs.declared.operation.Operation.TheVariants.{Alu as OfAlu, Multiply, Divide, Decimal as OfDecimal}
 use Rattle.request.specs.declared.raw.Request.{Request}
-use Rattle.request.specs.Limits.{fitsIn, xMost, yMost}
+use Rattle.request.specs.Limits.{fits_in, x_most, y_most}
 use Rattle.answer.specs.declared.answer.Answer.{Answer}
 
 -- the status, the flags as a word, the steps, R and S
@@ -39,71 +39,71 @@ abbrev pub plain_of : Flags → ℕ → Answer
 plain_of f r = whole_of 0 f 0 r 0
 
 -- 5, where X or Y is larger than that, or a flag outside 08D5
-abbrev pub limitedTo : ℕ → ℕ → Request → Answer → Answer
-limitedTo most-x most-y r a = cond (fitsIn most-x most-y r.flags r.x r.y) a (zeros 5)
+abbrev pub limited_to : ℕ → ℕ → Request → Answer → Answer
+limited_to most-x most-y r a = cond (fits_in most-x most-y r.flags r.x r.y) a (zeros 5)
 
 -- the flags that an operation names go over those handed in
-abbrev pub ofC : ResultC → Flags → Answer
-ofC m f = plain_of (setC m.carry f) m.result
+abbrev pub of_c : ResultC → Flags → Answer
+of_c m f = plain_of (set_c m.carry f) m.result
 
 -- C and O
-abbrev pub ofCo : ResultCo → Flags → Answer
-ofCo m f = plain_of (setCO m.carry m.overflow f) m.result
+abbrev pub of_co : ResultCo → Flags → Answer
+of_co m f = plain_of (set_co m.carry m.overflow f) m.result
 
 -- C, O and A
-abbrev pub ofCoa : ResultCoa → Flags → Answer
-ofCoa m f = plain_of (setCOA m.carry m.overflow m.auxCarry f) m.result
+abbrev pub of_coa : ResultCoa → Flags → Answer
+of_coa m f = plain_of (set_coa m.carry m.overflow m.aux_carry f) m.result
 
 -- the ALU chart: ADC, SBB, RCL and RCR take C in
-abbrev pub aluOf : ℕ → Alu → ℕ → ℕ → Flags → Answer
-aluOf n Add x y f = ofCoa (add n x y) f
-aluOf n Adc x y f = ofCoa (adc n x y f.carry) f
-aluOf n Sub x y f = ofCoa (sub n x y) f
-aluOf n Sbb x y f = ofCoa (sbb n x y f.carry) f
-aluOf n Neg x y f = ofCoa (neg n x) f
-aluOf n Shl x y f = ofCo (shl n x y) f
-aluOf n Shr x y f = ofC (shr n x y) f
-aluOf n Sar x y f = ofC (sar n x y) f
-aluOf n Rol x y f = ofCo (rol n x y) f
-aluOf n Ror x y f = ofCo (ror n x y) f
-aluOf n Rcl x y f = ofCo (rcl n x y f.carry) f
-aluOf n Rcr x y f = ofCo (rcr n x y f.carry) f
-aluOf n ShlAf x y f = ofCoa (shlAf n x y) f
+abbrev pub alu_of : ℕ → Alu → ℕ → ℕ → Flags → Answer
+alu_of n Add x y f = of_coa (add n x y) f
+alu_of n Adc x y f = of_coa (adc n x y f.carry) f
+alu_of n Sub x y f = of_coa (sub n x y) f
+alu_of n Sbb x y f = of_coa (sbb n x y f.carry) f
+alu_of n Neg x y f = of_coa (neg n x) f
+alu_of n Shl x y f = of_co (shl n x y) f
+alu_of n Shr x y f = of_c (shr n x y) f
+alu_of n Sar x y f = of_c (sar n x y) f
+alu_of n Rol x y f = of_co (rol n x y) f
+alu_of n Ror x y f = of_co (ror n x y) f
+alu_of n Rcl x y f = of_co (rcl n x y f.carry) f
+alu_of n Rcr x y f = of_co (rcr n x y f.carry) f
+alu_of n ShlAf x y f = of_coa (shl_af n x y) f
 
 -- R is an 8-bit product
-abbrev pub ofProduct8 : Multiplied → Answer
-ofProduct8 m = whole_of 0 m.flags m.steps m.product 0
+abbrev pub of_product8 : Multiplied → Answer
+of_product8 m = whole_of 0 m.flags m.steps m.product 0
 
 -- R is the upper half of a 16-bit product, S the lower
-abbrev pub ofProduct16 : Multiplied → Answer
-ofProduct16 m = whole_of 0 m.flags m.steps (m.product / 0x1_0000) (m.product % 0x1_0000)
+abbrev pub of_product16 : Multiplied → Answer
+of_product16 m = whole_of 0 m.flags m.steps (m.product / 0x1_0000) (m.product % 0x1_0000)
 
 -- the status tells why a divide is refused
-abbrev pub refusalStatus : Refusal → ℕ
-refusalStatus ZeroDivisor = 6
-refusalStatus TooWide = 8
-refusalStatus SignRange = 9
+abbrev pub refusal_status : Refusal → ℕ
+refusal_status ZeroDivisor = 6
+refusal_status TooWide = 8
+refusal_status SignRange = 9
 
 -- quotient and remainder, or the status of the refusal and no result
-abbrev pub ofOutcome : DivideOutcome → Flags → ℕ → Answer
-ofOutcome (accepted results) f steps = whole_of 0 f steps results.quotient results.remainder
-ofOutcome (refused why) f steps = whole_of (refusalStatus why) f steps 0 0
+abbrev pub of_outcome : DivideOutcome → Flags → ℕ → Answer
+of_outcome (accepted results) f steps = whole_of 0 f steps results.quotient results.remainder
+of_outcome (refused why) f steps = whole_of (refusal_status why) f steps 0 0
 
 -- a divide, with its flags and steps whichever it is
-abbrev pub ofDivided : Divided → Answer
-ofDivided d = ofOutcome d.outcome d.flags d.steps
+abbrev pub of_divided : Divided → Answer
+of_divided d = of_outcome d.outcome d.flags d.steps
 
 -- R is AX
-abbrev pub ofAdjusted : Adjusted → Answer
-ofAdjusted a = whole_of 0 a.flags a.steps a.ax 0
+abbrev pub of_adjusted : Adjusted → Answer
+of_adjusted a = whole_of 0 a.flags a.steps a.ax 0
 
 -- the decimal chart
-abbrev pub adjustOf : Decimal → ℕ → ℕ → Flags → Adjusted
-adjustOf Aaa ax byte f = aaaOf ax f
-adjustOf Aas ax byte f = aasOf ax f
-adjustOf Aad ax byte f = aadOf ax byte f
-adjustOf Daa ax byte f = daaOf ax f
-adjustOf Das ax byte f = dasOf ax f
+abbrev pub adjust_of : Decimal → ℕ → ℕ → Flags → Adjusted
+adjust_of Aaa ax byte f = aaa_of ax f
+adjust_of Aas ax byte f = aas_of ax f
+adjust_of Aad ax byte f = aad_of ax byte f
+adjust_of Daa ax byte f = daa_of ax f
+adjust_of Das ax byte f = das_of ax f
 
 -- the bit count of a width
 abbrev pub bits : Width → ℕ
@@ -111,29 +111,29 @@ bits Byte = 8
 bits Word = 16
 
 -- where the product stands, by the width
-abbrev pub multipliedBy : Width → Multiplied → Answer
-multipliedBy Byte m = ofProduct8 m
-multipliedBy Word m = ofProduct16 m
+abbrev pub multiplied_by : Width → Multiplied → Answer
+multiplied_by Byte m = of_product8 m
+multiplied_by Word m = of_product16 m
 
 -- the multiply chart
-abbrev pub multipliedOf : Mode → ℕ → ℕ → Flags → Answer
-multipliedOf m x y f = multipliedBy m.width (multiply (bits m.width) m.signed m.rep x y f)
+abbrev pub multiplied_of : Mode → ℕ → ℕ → Flags → Answer
+multiplied_of m x y f = multiplied_by m.width (multiply (bits m.width) m.signed m.rep x y f)
 
 -- the divide chart
-abbrev pub dividedOf : Mode → ℕ → ℕ → Flags → Answer
-dividedOf m x y f = ofDivided (divide (bits m.width) m.signed m.rep x y f)
+abbrev pub divided_of : Mode → ℕ → ℕ → Flags → Answer
+divided_of m x y f = of_divided (divide (bits m.width) m.signed m.rep x y f)
 
 -- each operation has its chart
-abbrev pub chartedBy : Operation → ℕ → ℕ → Flags → Answer
-chartedBy (OfAlu alu w) x y f = aluOf (bits w) alu x y f
-chartedBy (Multiply m) x y f = multipliedOf m x y f
-chartedBy (Divide m) x y f = dividedOf m x y f
-chartedBy (OfDecimal decimal) x y f = ofAdjusted (adjustOf decimal x y f)
+abbrev pub charted_by : Operation → ℕ → ℕ → Flags → Answer
+charted_by (OfAlu alu w) x y f = alu_of (bits w) alu x y f
+charted_by (Multiply m) x y f = multiplied_of m x y f
+charted_by (Divide m) x y f = divided_of m x y f
+charted_by (OfDecimal decimal) x y f = of_adjusted (adjust_of decimal x y f)
 
 -- an admitted request by its chart
 unfoldable pub charted : Request → Answer
-charted r = chartedBy r.operation r.x r.y (flags_of r.flags)
+charted r = charted_by r.operation r.x r.y (flags_of r.flags)
 
 -- an operation on a request's X, Y and flags: by its chart within its limits, and 5 outside them
-abbrev pub chartedAs : Operation → Request → Answer
-chartedAs o r = limitedTo (xMost o) (yMost o) r (chartedBy o r.x r.y (flags_of r.flags))
+abbrev pub charted_as : Operation → Request → Answer
+charted_as o r = limited_to (x_most o) (y_most o) r (charted_by o r.x r.y (flags_of r.flags))

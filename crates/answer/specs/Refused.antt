@@ -3,10 +3,10 @@ use Rattle.std.specs.Prelude.{◌≡◌, true, ◌+◌, ◌^◌, ◌≤◌, ◌<
 use Rattle.std.specs.Int.Bits.{bit_and}
 use Rattle.numbers.specs.Numbers.{is_set}
 use Rattle.flags.specs.Word.{word_of, flags_of}
-use Rattle.divide.specs.Divide.{applies, refusedFlags, refusedSteps}
+use Rattle.divide.specs.Divide.{applies, refused_flags, refused_steps}
 pub use Rattle.divide.specs.declared.div.Refusal.{Refusal}
 pub use Rattle.divide.specs.declared.div.Refusal.TheVariants.{ZeroDivisor, TooWide, SignRange}
-use Rattle.answer.specs.Charted.{refusalStatus}
+use Rattle.answer.specs.Charted.{refusal_status}
 use Rattle.answer.specs.Asked.{Raw}
 use Rattle.answer.specs.Table.{width_by}
 use Rattle.answer.specs.declared.answer.Answer.{Answer}
@@ -25,9 +25,9 @@ pub record RefusedDivide (why : Refusal) (r : Raw) : Type 0 where
 abbrev pub refusal : Refusal → Raw → Answer
 refusal why r =
     record {
-      status = refusalStatus why;
-      flags = word_of (refusedFlags (width_by r.mode) (is_set 1 r.mode) r.x r.y (flags_of r.flags));
-      steps = refusedSteps (width_by r.mode) (is_set 1 r.mode) r.x r.y;
+      status = refusal_status why;
+      flags = word_of (refused_flags (width_by r.mode) (is_set 1 r.mode) r.x r.y (flags_of r.flags));
+      steps = refused_steps (width_by r.mode) (is_set 1 r.mode) r.x r.y;
       r = 0;
       s = 0;
     }

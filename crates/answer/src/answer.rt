@@ -5,7 +5,7 @@ ghost use Rattle.divide.specs.Views.{divided8, divided16};
 ghost use Rattle.multiply.specs.Views.{product8, product16};
 ghost use Rattle.flags.specs.Word.{flags_of};
 ghost use Rattle.alu.specs.Views.{c8, c16, co8, co16, coa8, coa16};
-ghost use Rattle.answer.specs.Charted.{whole_of, zeros as zerosOf, plain_of, limitedTo, ofC, ofCo, ofCoa, ofProduct8, ofProduct16, refusalStatus, ofDivided, ofAdjusted};
+ghost use Rattle.answer.specs.Charted.{whole_of, zeros as zerosOf, plain_of, limited_to, of_c, of_co, of_coa, of_product8, of_product16, refusal_status, of_divided, of_adjusted};
 
 use alu::result::{ResultC8, ResultC16, ResultCo8, ResultCo16, ResultCoa8, ResultCoa16};
 use bcd::adjust::Adjusted;
@@ -58,7 +58,7 @@ pub fn plain(flags: Flags, r: u16) -> Answer
 
 // The answer `a` if X, Y and the flags are within their limits. If not, status 5.
 pub fn limited(request: Request, x_most: u32, y_most: u16, a: Answer) -> Answer
-    ensures { result ≡ limitedTo x_most y_most request a }
+    ensures { result ≡ limited_to x_most y_most request a }
 {
     if request.fits(x_most, y_most) {
         return a;
@@ -68,61 +68,61 @@ pub fn limited(request: Request, x_most: u32, y_most: u16, a: Answer) -> Answer
 
 // The six below answer an ALU operation. X may be as wide as the operation; `y_most` is its limit of Y.
 pub fn of_c8(made: ResultC8, request: Request, y_most: u16) -> Answer
-    ensures { result ≡ limitedTo 0xFF y_most request (ofC (c8 made) (flags_of request.flags)) }
+    ensures { result ≡ limited_to 0xFF y_most request (of_c (c8 made) (flags_of request.flags)) }
 {
     let flags = Flags::from_word(request.flags).with_c(made.carry);
     limited(request, 0xFF, y_most, plain(flags, made.result as u16))
 }
 
 pub fn of_co8(made: ResultCo8, request: Request, y_most: u16) -> Answer
-    ensures { result ≡ limitedTo 0xFF y_most request (ofCo (co8 made) (flags_of request.flags)) }
+    ensures { result ≡ limited_to 0xFF y_most request (of_co (co8 made) (flags_of request.flags)) }
 {
     let flags = Flags::from_word(request.flags).with_co(made.carry, made.overflow);
     limited(request, 0xFF, y_most, plain(flags, made.result as u16))
 }
 
 pub fn of_coa8(made: ResultCoa8, request: Request, y_most: u16) -> Answer
-    ensures { result ≡ limitedTo 0xFF y_most request (ofCoa (coa8 made) (flags_of request.flags)) }
+    ensures { result ≡ limited_to 0xFF y_most request (of_coa (coa8 made) (flags_of request.flags)) }
 {
     let flags = Flags::from_word(request.flags).with_coa(made.carry, made.overflow, made.aux_carry);
     limited(request, 0xFF, y_most, plain(flags, made.result as u16))
 }
 
 pub fn of_c16(made: ResultC16, request: Request, y_most: u16) -> Answer
-    ensures { result ≡ limitedTo 0xFFFF y_most request (ofC (c16 made) (flags_of request.flags)) }
+    ensures { result ≡ limited_to 0xFFFF y_most request (of_c (c16 made) (flags_of request.flags)) }
 {
     let flags = Flags::from_word(request.flags).with_c(made.carry);
     limited(request, 0xFFFF, y_most, plain(flags, made.result))
 }
 
 pub fn of_co16(made: ResultCo16, request: Request, y_most: u16) -> Answer
-    ensures { result ≡ limitedTo 0xFFFF y_most request (ofCo (co16 made) (flags_of request.flags)) }
+    ensures { result ≡ limited_to 0xFFFF y_most request (of_co (co16 made) (flags_of request.flags)) }
 {
     let flags = Flags::from_word(request.flags).with_co(made.carry, made.overflow);
     limited(request, 0xFFFF, y_most, plain(flags, made.result))
 }
 
 pub fn of_coa16(made: ResultCoa16, request: Request, y_most: u16) -> Answer
-    ensures { result ≡ limitedTo 0xFFFF y_most request (ofCoa (coa16 made) (flags_of request.flags)) }
+    ensures { result ≡ limited_to 0xFFFF y_most request (of_coa (coa16 made) (flags_of request.flags)) }
 {
     let flags = Flags::from_word(request.flags).with_coa(made.carry, made.overflow, made.aux_carry);
     limited(request, 0xFFFF, y_most, plain(flags, made.result))
 }
 
 pub fn of_product8(made: Product8) -> Answer
-    ensures { result ≡ ofProduct8 (product8 made) }
+    ensures { result ≡ of_product8 (product8 made) }
 {
     whole(0, made.flags, made.steps, made.product, 0)
 }
 
 pub fn of_product16(made: Product16) -> Answer
-    ensures { result ≡ ofProduct16 (product16 made) }
+    ensures { result ≡ of_product16 (product16 made) }
 {
     whole(0, made.flags, made.steps, made.upper, made.lower)
 }
 
 fn refusal_status(why: Refusal) -> u8
-    ensures { result ≡ refusalStatus why }
+    ensures { result ≡ refusal_status why }
 {
     match why {
         Refusal::ZeroDivisor => 6,
@@ -132,7 +132,7 @@ fn refusal_status(why: Refusal) -> u8
 }
 
 pub fn of_divided8(made: Divided8) -> Answer
-    ensures { result ≡ ofDivided (divided8 made) }
+    ensures { result ≡ of_divided (divided8 made) }
 {
     let outcome = made.outcome;
     match outcome {
@@ -148,7 +148,7 @@ pub fn of_divided8(made: Divided8) -> Answer
 }
 
 pub fn of_divided16(made: Divided16) -> Answer
-    ensures { result ≡ ofDivided (divided16 made) }
+    ensures { result ≡ of_divided (divided16 made) }
 {
     let outcome = made.outcome;
     match outcome {
@@ -164,7 +164,7 @@ pub fn of_divided16(made: Divided16) -> Answer
 }
 
 pub fn of_adjusted(made: Adjusted) -> Answer
-    ensures { result ≡ ofAdjusted made }
+    ensures { result ≡ of_adjusted made }
 {
     whole(0, made.flags, made.steps, made.ax, 0)
 }

@@ -1,7 +1,7 @@
 // Answers raw requests, which no caller has checked: the table of statuses from 3 on.
 ghost use Rattle.std.specs.Prelude.{◌≡◌};
 ghost use Rattle.flags.specs.Parity.{ParityTable};
-ghost use Rattle.answer.specs.Asked.{asked, statusOf, parts_of};
+ghost use Rattle.answer.specs.Asked.{asked, status_of, parts_of};
 
 use crate::answer::Answer;
 use crate::{answer, chart};
@@ -40,7 +40,7 @@ pub fn ask_into(
     parts: &mut [u16; 4],
 ) -> u8
     requires { ParityTable table.now }
-    ensures { (result ≡ statusOf op mode flags x y) × (parts.new ≡ parts_of op mode flags x y) }
+    ensures { (result ≡ status_of op mode flags x y) × (parts.new ≡ parts_of op mode flags x y) }
 {
     let a = answer_raw(
         Raw {

@@ -6,7 +6,7 @@ ghost use Rattle.flags.specs.Parity.{ParityTable};
 ghost use Rattle.flags.specs.Word.{flags_of};
 ghost use Rattle.request.specs.declared.operation.Width.TheVariants.{Byte, Word};
 ghost use Rattle.request.specs.declared.operation.Operation.TheVariants.{Alu as OfAlu, Multiply, Divide, Decimal as OfDecimal};
-ghost use Rattle.answer.specs.Charted.{limitedTo, ofAdjusted, chartedAs};
+ghost use Rattle.answer.specs.Charted.{limited_to, of_adjusted, charted_as};
 
 use crate::answer;
 use crate::answer::Answer;
@@ -26,7 +26,7 @@ fn carry_in(request: Request) -> bool
 }
 
 fn alu8(alu: Alu, request: Request) -> Answer
-    ensures { result ≡ chartedAs (OfAlu alu Byte) request }
+    ensures { result ≡ charted_as (OfAlu alu Byte) request }
 {
     let x = (request.x % 0x100) as u8;
     let y = (request.y % 0x100) as u8;
@@ -53,7 +53,7 @@ fn alu8(alu: Alu, request: Request) -> Answer
 
 // A right operand may be a word; a shift's count is a byte.
 fn alu16(alu: Alu, request: Request) -> Answer
-    ensures { result ≡ chartedAs (OfAlu alu Word) request }
+    ensures { result ≡ charted_as (OfAlu alu Word) request }
 {
     let x = (request.x % 0x1_0000) as u16;
     let y = request.y;
@@ -93,7 +93,7 @@ fn alu16(alu: Alu, request: Request) -> Answer
 
 fn multiplied(mode: Mode, request: Request, table: &[u8; 256]) -> Answer
     requires { ParityTable table.now }
-    ensures { result ≡ chartedAs (Multiply mode) request }
+    ensures { result ≡ charted_as (Multiply mode) request }
 {
     let flags = Flags::from_word(request.flags);
     let width = mode.width;
@@ -131,7 +131,7 @@ fn multiplied(mode: Mode, request: Request, table: &[u8; 256]) -> Answer
 
 fn divided(mode: Mode, request: Request, table: &[u8; 256]) -> Answer
     requires { ParityTable table.now }
-    ensures { result ≡ chartedAs (Divide mode) request }
+    ensures { result ≡ charted_as (Divide mode) request }
 {
     let flags = Flags::from_word(request.flags);
     let width = mode.width;
@@ -161,14 +161,14 @@ fn divided(mode: Mode, request: Request, table: &[u8; 256]) -> Answer
 }
 
 fn in_ax(made: Adjusted, request: Request, y_most: u16) -> Answer
-    ensures { result ≡ limitedTo 0xFFFF y_most request (ofAdjusted made) }
+    ensures { result ≡ limited_to 0xFFFF y_most request (of_adjusted made) }
 {
     answer::limited(request, 0xFFFF, y_most, answer::of_adjusted(made))
 }
 
 fn adjusted(decimal: Decimal, request: Request, table: &[u8; 256]) -> Answer
     requires { ParityTable table.now }
-    ensures { result ≡ chartedAs (OfDecimal decimal) request }
+    ensures { result ≡ charted_as (OfDecimal decimal) request }
 {
     let flags = Flags::from_word(request.flags);
     let ax = (request.x % 0x1_0000) as u16;
@@ -185,7 +185,7 @@ fn adjusted(decimal: Decimal, request: Request, table: &[u8; 256]) -> Answer
 // Answers a request by the chart of its operation, or with 5 if X, Y or the flags exceed their limits.
 pub fn chart(request: Request, table: &[u8; 256]) -> Answer
     requires { ParityTable table.now }
-    ensures { result ≡ chartedAs request.operation request }
+    ensures { result ≡ charted_as request.operation request }
 {
     let operation = request.operation;
     match operation {

@@ -2,7 +2,7 @@
 // Tests are joined by `&` and `|`, which look at both sides: no branch, and one way through.
 ghost use Rattle.std.specs.Prelude.{◌≡◌};
 ghost use Rattle.numbers.specs.Numbers.{between};
-ghost use Rattle.bcd.specs.Adjust.{ahOf, alOf, adjusts};
+ghost use Rattle.bcd.specs.Adjust.{ah_of, al_of, adjusts};
 
 use flags::word::Flags;
 
@@ -14,13 +14,13 @@ pub struct Adjusted {
 }
 
 pub fn ah(ax: u16) -> u8
-    ensures { result ≡ ahOf ax }
+    ensures { result ≡ ah_of ax }
 {
     (ax / 0x100) as u8
 }
 
 pub fn al(ax: u16) -> u8
-    ensures { result ≡ alOf ax }
+    ensures { result ≡ al_of ax }
 {
     (ax % 0x100) as u8
 }

@@ -1,7 +1,7 @@
 // AAA, AAS and AAD.
 ghost use Rattle.std.specs.Prelude.{◌≡◌};
 ghost use Rattle.flags.specs.Parity.{ParityTable};
-ghost use Rattle.bcd.specs.Ascii.{ascii, aasO, aasS, aaaOf, aasOf, aadOf};
+ghost use Rattle.bcd.specs.Ascii.{ascii, aas_o, aas_s, aaa_of, aas_of, aad_of};
 
 use crate::adjust;
 use crate::adjust::Adjusted;
@@ -38,7 +38,7 @@ fn cut(
 
 pub fn aaa(ax: u16, flags: Flags, table: &[u8; 256]) -> Adjusted
     requires { ParityTable table.now }
-    ensures { result ≡ aaaOf ax flags }
+    ensures { result ≡ aaa_of ax flags }
 {
     let ah = adjust::ah(ax);
     let al = adjust::al(ax);
@@ -54,13 +54,13 @@ pub fn aaa(ax: u16, flags: Flags, table: &[u8; 256]) -> Adjusted
 }
 
 fn aas_overflow(al: u8, aux_carry: bool) -> bool
-    ensures { result ≡ aasO al aux_carry }
+    ensures { result ≡ aas_o al aux_carry }
 {
     aux_carry & adjust::between(0x80, 0x85, al)
 }
 
 fn aas_sign(al: u8, aux_carry: bool) -> bool
-    ensures { result ≡ aasS al aux_carry }
+    ensures { result ≡ aas_s al aux_carry }
 {
     if aux_carry {
         (al <= 0x05) | (al >= 0x86)
@@ -71,7 +71,7 @@ fn aas_sign(al: u8, aux_carry: bool) -> bool
 
 pub fn aas(ax: u16, flags: Flags, table: &[u8; 256]) -> Adjusted
     requires { ParityTable table.now }
-    ensures { result ≡ aasOf ax flags }
+    ensures { result ≡ aas_of ax flags }
 {
     let ah = adjust::ah(ax);
     let al = adjust::al(ax);
@@ -89,7 +89,7 @@ pub fn aas(ax: u16, flags: Flags, table: &[u8; 256]) -> Adjusted
 // The product of AH and the byte comes by CORX, with its steps.
 pub fn aad(ax: u16, imm8: u8, flags: Flags, table: &[u8; 256]) -> Adjusted
     requires { ParityTable table.now }
-    ensures { result ≡ aadOf ax imm8 flags }
+    ensures { result ≡ aad_of ax imm8 flags }
 {
     let product = corx::corx8(adjust::ah(ax), imm8, false, 3);
     let al = std::num::wrapping_add_u8(adjust::al(ax), product.tmpc);

@@ -1,7 +1,7 @@
 // DAA and DAS.
 ghost use Rattle.std.specs.Prelude.{◌≡◌, ◌+◌, if◌then◌else◌};
 ghost use Rattle.flags.specs.Parity.{ParityTable};
-ghost use Rattle.bcd.specs.Decimal.{highAdjusts, decimal, daaO, dasO, daaOf, dasOf};
+ghost use Rattle.bcd.specs.Decimal.{high_adjusts, decimal, daa_o, das_o, daa_of, das_of};
 
 use crate::adjust;
 use crate::adjust::Adjusted;
@@ -10,7 +10,7 @@ use flags::word::Flags;
 
 // The chip checks against 9F where A was set, which the usual pseudocode does not say.
 fn high_digit_adjusts(al: u8, aux_carry: bool, carry: bool) -> bool
-    ensures { result ≡ highAdjusts al aux_carry carry }
+    ensures { result ≡ high_adjusts al aux_carry carry }
 {
     if aux_carry {
         (al > 0x9F) | carry
@@ -39,7 +39,7 @@ fn adjusted(ah: u8, al: u8, flags: Flags, table: &[u8; 256]) -> Adjusted
 }
 
 fn daa_overflow(al: u8, carry: bool) -> bool
-    ensures { result ≡ daaO al carry }
+    ensures { result ≡ daa_o al carry }
 {
     if carry {
         adjust::between(0x1A, 0x7F, al)
@@ -49,7 +49,7 @@ fn daa_overflow(al: u8, carry: bool) -> bool
 }
 
 fn das_overflow(al: u8, aux_carry: bool, carry: bool) -> bool
-    ensures { result ≡ dasO al aux_carry carry }
+    ensures { result ≡ das_o al aux_carry carry }
 {
     if carry {
         if aux_carry {
@@ -66,7 +66,7 @@ fn das_overflow(al: u8, aux_carry: bool, carry: bool) -> bool
 
 pub fn daa(ax: u16, flags: Flags, table: &[u8; 256]) -> Adjusted
     requires { ParityTable table.now }
-    ensures { result ≡ daaOf ax flags }
+    ensures { result ≡ daa_of ax flags }
 {
     let al = adjust::al(ax);
     let low = adjust::low_digit_adjusts(al, flags.aux_carry);
@@ -78,7 +78,7 @@ pub fn daa(ax: u16, flags: Flags, table: &[u8; 256]) -> Adjusted
 
 pub fn das(ax: u16, flags: Flags, table: &[u8; 256]) -> Adjusted
     requires { ParityTable table.now }
-    ensures { result ≡ dasOf ax flags }
+    ensures { result ≡ das_of ax flags }
 {
     let al = adjust::al(ax);
     let low = adjust::low_digit_adjusts(al, flags.aux_carry);

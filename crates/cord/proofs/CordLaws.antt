@@ -6,18 +6,18 @@ use native.Mathlib.{Nat.pow-suc, Nat.div-add-mod', Nat.mod-lt, Nat.mod-eq_of_lt,
 use lib.{Arith.digits_lt, Arith.digits_div, Arith.digits_mod, Arith.lt-one, Dec.leb, Dec.ltb, Pow.pow-add, Pow.pow_pos}
 use borrow.Author.Tests.{leb-true, leb-false, le-leb, lt-leb}
 use Rattle.numbers.specs.Numbers.{top}
-use Rattle.numbers.proofs.Powers.{top-twice}
-use Rattle.cord.specs.Round.{Round, high, low, byRoad, cordRound}
-use Rattle.cord.specs.Cord.{CordAnswer, accepted, refused, shifted, Road, shiftedOut, noBorrow, borrow as borrows, roadBy, road, tally, byShiftedOut, shiftedOuts, byNoBorrow, noBorrows, bothRoads, noRoads, last_by, lastCompare, cordSteps, cord}
+use Rattle.numbers.proofs.Powers.{top_twice}
+use Rattle.cord.specs.Round.{Round, high, low, by_road, cord_round}
+use Rattle.cord.specs.Cord.{CordAnswer, accepted, refused, shifted, Road, shifted_out, no_borrow, borrow as borrows, road_by, road, tally, by_shifted_out, shifted_outs, by_no_borrow, no_borrows, both_roads, no_roads, last_by, last_compare, cord_steps, cord}
 
 -- ---- a round of the code
 
 -- the state that one number for both halves stands for, and one for the last compare with what stood below it
 abbrev pub halved : ℕ → ℕ → ℕ → ℕ → ℕ → Round
-halved n x l u v = record { tmpa = x / 2 ^ n; tmpc = x % 2 ^ n; compared = l / 2 ^ n; shiftedOut = u; noBorrow = v }
+halved n x l u v = record { tmpa = x / 2 ^ n; tmpc = x % 2 ^ n; compared = l / 2 ^ n; shifted_out = u; no_borrow = v }
 
 same : {a a' c c' l l' : ℕ} (u v : ℕ) → a ≡ a' → c ≡ c' → l ≡ l'
-    → ◌≡◌ {A = Round} (record { tmpa = a; tmpc = c; compared = l; shiftedOut = u; noBorrow = v }) (record { tmpa = a'; tmpc = c'; compared = l'; shiftedOut = u; noBorrow = v })
+    → ◌≡◌ {A = Round} (record { tmpa = a; tmpc = c; compared = l; shifted_out = u; no_borrow = v }) (record { tmpa = a'; tmpc = c'; compared = l'; shifted_out = u; no_borrow = v })
 same u v p q r = cc
 
 module _ (n b x l u v : ℕ) (hn : 0 < n) where
@@ -34,13 +34,13 @@ module _ (n b x l u v : ℕ) (hn : 0 < n) where
   high_is : x * 2 / 2 ^ n ≡ high n s
   high_is = ap (λ (y : ℕ). y / 2 ^ n) whole ∙ digits_div (high n s) small
 
-  low-is : x * 2 % 2 ^ n ≡ low n s
-  low-is = ap (λ (y : ℕ). y % 2 ^ n) whole ∙ digits_mod (high n s) small
+  low_is : x * 2 % 2 ^ n ≡ low n s
+  low_is = ap (λ (y : ℕ). y % 2 ^ n) whole ∙ digits_mod (high n s) small
 
   -- its lowest bit is clear, so there is room for a one
   room : low n s + 1 < 2 ^ n
   room =
-      let m = top-twice n hn in
+      let m = top_twice n hn in
       let even : x * 2 ≡ high n s * (top n * 2) + low n s = whole ∙ ap (λ (y : ℕ). high n s * y + low n s) (sym m) in
       omega (arith, small)
 
@@ -51,11 +51,11 @@ module _ (n b x l u v : ℕ) (hn : 0 < n) where
       by : (g : ℕ) → high n s ≡ b + g → x * 2 + 1 - b * 2 ^ n ≡ g * 2 ^ n + (low n s + 1)
       by g e = let w : x * 2 ≡ (b + g) * 2 ^ n + low n s = whole ∙ ap (λ (y : ℕ). y * 2 ^ n + low n s) e in omega arith
 
-  less-high : b ≤ high n s → (x * 2 + 1 - b * 2 ^ n) / 2 ^ n ≡ high n s - b
-  less-high h = ap (λ (y : ℕ). y / 2 ^ n) (less h) ∙ digits_div (high n s - b) room
+  less_high : b ≤ high n s → (x * 2 + 1 - b * 2 ^ n) / 2 ^ n ≡ high n s - b
+  less_high h = ap (λ (y : ℕ). y / 2 ^ n) (less h) ∙ digits_div (high n s - b) room
 
-  less-low : b ≤ high n s → (x * 2 + 1 - b * 2 ^ n) % 2 ^ n ≡ low n s + 1
-  less-low h = ap (λ (y : ℕ). y % 2 ^ n) (less h) ∙ digits_mod (high n s - b) room
+  less_low : b ≤ high n s → (x * 2 + 1 - b * 2 ^ n) % 2 ^ n ≡ low n s + 1
+  less_low h = ap (λ (y : ℕ). y % 2 ^ n) (less h) ∙ digits_mod (high n s - b) room
 
   -- a border for the number is one for the upper half
   reaches : (y : ℕ) → y * 2 ^ n ≤ x * 2 → y ≤ high n s
@@ -64,22 +64,22 @@ module _ (n b x l u v : ℕ) (hn : 0 < n) where
   below : (y : ℕ) → x * 2 < y * 2 ^ n → high n s < y
   below y h = let q : x * 2 / 2 ^ n < y = (div-lt_iff_lt-mul (pow_pos n)).1 h in rw high_is at q
 
-  pub by_first : b < 2 ^ n → 2 ^ n * 2 ^ n ≤ x * 2 → halved n (x * 2 + 1 - b * 2 ^ n) l (u + 1) v ≡ cordRound n b s
-  unfolding cordRound
+  pub by_first : b < 2 ^ n → 2 ^ n * 2 ^ n ≤ x * 2 → halved n (x * 2 + 1 - b * 2 ^ n) l (u + 1) v ≡ cord_round n b s
+  unfolding cord_round
   by_first hb h =
       let out = reaches (2 ^ n) h in
-      rw (le-leb (2 ^ n) (high n s) out) (same (u + 1) v (less-high (omega arith)) (less-low (omega arith)) refl)
+      rw (le-leb (2 ^ n) (high n s) out) (same (u + 1) v (less_high (omega arith)) (less_low (omega arith)) refl)
 
   module _ (h : x * 2 < 2 ^ n * 2 ^ n) where
-    pub by-second : b * 2 ^ n ≤ x * 2 → halved n (x * 2 + 1 - b * 2 ^ n) (x * 2) u (v + 1) ≡ cordRound n b s
-    unfolding cordRound
-    by-second i =
+    pub by_second : b * 2 ^ n ≤ x * 2 → halved n (x * 2 + 1 - b * 2 ^ n) (x * 2) u (v + 1) ≡ cord_round n b s
+    unfolding cord_round
+    by_second i =
         let takes = reaches b i in
-        rw (lt-leb (2 ^ n) (high n s) (below (2 ^ n) h), le-leb b (high n s) takes) (same u (v + 1) (less-high takes) (less-low takes) high_is)
+        rw (lt-leb (2 ^ n) (high n s) (below (2 ^ n) h), le-leb b (high n s) takes) (same u (v + 1) (less_high takes) (less_low takes) high_is)
 
-    pub by-third : x * 2 < b * 2 ^ n → halved n (x * 2) (x * 2) u v ≡ cordRound n b s
-    unfolding cordRound
-    by-third i = rw (lt-leb (2 ^ n) (high n s) (below (2 ^ n) h), lt-leb b (high n s) (below b i)) (same u v high_is low-is high_is)
+    pub by_third : x * 2 < b * 2 ^ n → halved n (x * 2) (x * 2) u v ≡ cord_round n b s
+    unfolding cord_round
+    by_third i = rw (lt-leb (2 ^ n) (high n s) (below (2 ^ n) h), lt-leb b (high n s) (below b i)) (same u v high_is low_is high_is)
 
 -- ---- the walk
 
@@ -95,12 +95,12 @@ pub record Walked (n b d k : ℕ) (s : Round) : Type 0 where
   pub upper : s.tmpa ≡ p % b
   pub lower : s.tmpc ≡ l * 2 ^ k + p / b
   pub few : p / b < 2 ^ k
-  pub last : s.compared ≡ lastCompare n b k p
-  pub outs : s.shiftedOut ≡ shiftedOuts n b k p
-  pub plains : s.noBorrow ≡ noBorrows n b k p
+  pub last : s.compared ≡ last_compare n b k p
+  pub outs : s.shifted_out ≡ shifted_outs n b k p
+  pub plains : s.no_borrow ≡ no_borrows n b k p
 
-pub begin : (n b a c : ℕ) → a < b → c < 2 ^ n → Walked n b (a * 2 ^ n + c) 0 (record { tmpa = a; tmpc = c; compared = a; shiftedOut = 0; noBorrow = 0 })
-unfolding lastCompare tally
+pub begin : (n b a c : ℕ) → a < b → c < 2 ^ n → Walked n b (a * 2 ^ n + c) 0 (record { tmpa = a; tmpc = c; compared = a; shifted_out = 0; no_borrow = 0 })
+unfolding last_compare tally
 begin n b a c ha hc =
     let none : a / b ≡ 0 = div-eq_of_lt ha in
     record {
@@ -119,8 +119,8 @@ begin n b a c ha hc =
     }
 
 -- the lower half, of a bit t, j bits l and k bits q, shifted left by one
-whole-pow : (n j k : ℕ) → suc j + k ≡ n → 2 ^ n ≡ 2 * (2 ^ j * 2 ^ k)
-whole-pow n j k e = ap (λ (x : ℕ). 2 ^ x) (sym e) ∙ pow-add 2 (suc j) k ∙ rw pow-suc (omega arith)
+whole_pow : (n j k : ℕ) → suc j + k ≡ n → 2 ^ n ≡ 2 * (2 ^ j * 2 ^ k)
+whole_pow n j k e = ap (λ (x : ℕ). 2 ^ x) (sym e) ∙ pow-add 2 (suc j) k ∙ rw pow-suc (omega arith)
 
 pushed : (c t l q p r : ℕ) → l < p → q < r → c ≡ (t * p + l) * r + q → (c * 2 / (2 * (p * r)) ≡ t) × (c * 2 % (2 * (p * r)) ≡ l * (2 * r) + q * 2)
 pushed c t l q p r hl hq e =
@@ -129,8 +129,8 @@ pushed c t l q p r hl hq e =
     (rw d (digits_div t small), rw d (digits_mod t small))
 
 -- a prefix with one bit more: its quotient and remainder by whether the divisor fits
-pub fits-once : (b p t h : ℕ) → h ≡ p % b * 2 + t → t < 2 → b ≤ h → p % b < b → ((p * 2 + t) / b ≡ p / b * 2 + 1) × ((p * 2 + t) % b ≡ h - b)
-fits-once b p t h eh ht hb hr =
+pub fits_once : (b p t h : ℕ) → h ≡ p % b * 2 + t → t < 2 → b ≤ h → p % b < b → ((p * 2 + t) / b ≡ p / b * 2 + 1) × ((p * 2 + t) % b ≡ h - b)
+fits_once b p t h eh ht hb hr =
     let s = div-add-mod' p b in
     let d : p * 2 + t ≡ (p / b * 2 + 1) * b + (h - b) = ap (λ (x : ℕ). x * 2 + t) (sym s) ∙ omega arith in
     (ap (λ (x : ℕ). x / b) d ∙ digits_div (p / b * 2 + 1) (omega arith), ap (λ (x : ℕ). x % b) d ∙ digits_mod (p / b * 2 + 1) (omega arith))
@@ -145,15 +145,15 @@ fits_not b p t h eh hb =
 module _ (n b d k j t l p : ℕ) (s : Round) (hb : b < 2 ^ n) (pos : 0 < b) (count : suc j + k ≡ n) (ht : t < 2) (hl : l < 2 ^ j)
     (whole : p * (2 ^ j * 2) + (t * 2 ^ j + l) ≡ d)
     (up : s.tmpa ≡ p % b) (lo : s.tmpc ≡ (t * 2 ^ j + l) * 2 ^ k + p / b) (few : p / b < 2 ^ k)
-    (lc : s.compared ≡ lastCompare n b k p) (so : s.shiftedOut ≡ shiftedOuts n b k p) (nb : s.noBorrow ≡ noBorrows n b k p) where
+    (lc : s.compared ≡ last_compare n b k p) (so : s.shifted_out ≡ shifted_outs n b k p) (nb : s.no_borrow ≡ no_borrows n b k p) where
   next-high : high n s ≡ p % b * 2 + t
   next-high =
       ap₂ (λ (x y : ℕ). x * 2 + y) up
-      (ap (λ (x : ℕ). s.tmpc * 2 / x) (whole-pow n j k count) ∙ (pushed s.tmpc t l (p / b) (2 ^ j) (2 ^ k) hl few lo).0)
+      (ap (λ (x : ℕ). s.tmpc * 2 / x) (whole_pow n j k count) ∙ (pushed s.tmpc t l (p / b) (2 ^ j) (2 ^ k) hl few lo).0)
 
   next_low : low n s ≡ l * 2 ^ suc k + p / b * 2
   next_low =
-      ap (λ (x : ℕ). s.tmpc * 2 % x) (whole-pow n j k count)
+      ap (λ (x : ℕ). s.tmpc * 2 % x) (whole_pow n j k count)
       ∙ (pushed s.tmpc t l (p / b) (2 ^ j) (2 ^ k) hl few lo).1
       ∙ rw pow-suc (omega arith)
 
@@ -163,36 +163,36 @@ module _ (n b d k j t l p : ℕ) (s : Round) (hb : b < 2 ^ n) (pos : 0 < b) (cou
   seen : shifted b (p * 2 + t) ≡ high n s
   seen = ap₂ (λ (x y : ℕ). x % b * 2 + y) half (digits_mod p ht) ∙ sym next-high
 
-  on-road : road n b (p * 2 + t) ≡ roadBy (leb (2 ^ n) (high n s)) (leb b (high n s))
+  on_road : road n b (p * 2 + t) ≡ road_by (leb (2 ^ n) (high n s)) (leb b (high n s))
   unfolding road
-  on-road = ap (λ (h : ℕ). roadBy (leb (2 ^ n) h) (leb b h)) seen
+  on_road = ap (λ (h : ℕ). road_by (leb (2 ^ n) h) (leb b h)) seen
 
   abbrev Next : Bool → Bool → Type 0
-  Next x y = Walked n b d (suc k) (byRoad x y b (high n s) (low n s) s)
+  Next x y = Walked n b d (suc k) (by_road x y b (high n s) (low n s) s)
 
   -- what the chart's recursions gain on a road: the last compare, and a tally, whatever it counts
   module _ {r : Road} (e : road n b (p * 2 + t) ≡ r) where
-    compare-gains : lastCompare n b (suc k) (p * 2 + t) ≡ last_by r (lastCompare n b k p) (high n s)
-    unfolding lastCompare
-    compare-gains =
-        ap₂ (λ (x y : ℕ). last_by (road n b (p * 2 + t)) x y) (ap (lastCompare n b k) half) seen ∙ ap (λ (x : Road). last_by x (lastCompare n b k p) (high n s)) e
+    compare_gains : last_compare n b (suc k) (p * 2 + t) ≡ last_by r (last_compare n b k p) (high n s)
+    unfolding last_compare
+    compare_gains =
+        ap₂ (λ (x y : ℕ). last_by (road n b (p * 2 + t)) x y) (ap (last_compare n b k) half) seen ∙ ap (λ (x : Road). last_by x (last_compare n b k p) (high n s)) e
 
-    tally-gains : (counts : Road → ℕ) → tally counts n b (suc k) (p * 2 + t) ≡ tally counts n b k p + counts r
+    tally_gains : (counts : Road → ℕ) → tally counts n b (suc k) (p * 2 + t) ≡ tally counts n b k p + counts r
     unfolding tally
-    tally-gains counts = ap₂ (λ (x : ℕ) (y : Road). x + counts y) (ap (tally counts n b k) half) e
+    tally_gains counts = ap₂ (λ (x : ℕ) (y : Road). x + counts y) (ap (tally counts n b k) half) e
 
   taken_in : (p * 2 + t) * 2 ^ j + l ≡ d
   taken_in = omega arith
 
-  with-one : (x y : Bool) → b ≤ high n s → road n b (p * 2 + t) ≡ roadBy x y
-      → (byRoad x y b (high n s) (low n s) s).tmpa ≡ high n s - b
-      → (byRoad x y b (high n s) (low n s) s).tmpc ≡ low n s + 1
-      → (byRoad x y b (high n s) (low n s) s).compared ≡ last_by (roadBy x y) s.compared (high n s)
-      → (byRoad x y b (high n s) (low n s) s).shiftedOut ≡ s.shiftedOut + byShiftedOut (roadBy x y)
-      → (byRoad x y b (high n s) (low n s) s).noBorrow ≡ s.noBorrow + byNoBorrow (roadBy x y)
+  with_one : (x y : Bool) → b ≤ high n s → road n b (p * 2 + t) ≡ road_by x y
+      → (by_road x y b (high n s) (low n s) s).tmpa ≡ high n s - b
+      → (by_road x y b (high n s) (low n s) s).tmpc ≡ low n s + 1
+      → (by_road x y b (high n s) (low n s) s).compared ≡ last_by (road_by x y) s.compared (high n s)
+      → (by_road x y b (high n s) (low n s) s).shifted_out ≡ s.shifted_out + by_shifted_out (road_by x y)
+      → (by_road x y b (high n s) (low n s) s).no_borrow ≡ s.no_borrow + by_no_borrow (road_by x y)
       → Next x y
-  with-one x y h e ra rc rl ro rn =
-      let q = fits-once b p t (high n s) next-high ht h (mod-lt p pos) in
+  with_one x y h e ra rc rl ro rn =
+      let q = fits_once b p t (high n s) next-high ht h (mod-lt p pos) in
       let f = next_low in
       record {
         j = j;
@@ -204,18 +204,18 @@ module _ (n b d k j t l p : ℕ) (s : Round) (hb : b < 2 ^ n) (pos : 0 < b) (cou
         upper = ra ∙ sym q.1;
         lower = rc ∙ omega arith;
         few = rw pow-suc (omega arith);
-        last = rl ∙ ap (λ (z : ℕ). last_by (roadBy x y) z (high n s)) lc ∙ sym (compare-gains e);
-        outs = omega (arith, tally-gains e byShiftedOut);
-        plains = omega (arith, tally-gains e byNoBorrow);
+        last = rl ∙ ap (λ (z : ℕ). last_by (road_by x y) z (high n s)) lc ∙ sym (compare_gains e);
+        outs = omega (arith, tally_gains e by_shifted_out);
+        plains = omega (arith, tally_gains e by_no_borrow);
       }
 
   pub stepped : (x y : Bool) → leb (2 ^ n) (high n s) ≡ x → leb b (high n s) ≡ y → Next x y
-  stepped true y ex ey = with-one true y (omega (arith, leb-true (2 ^ n) (high n s) ex)) (on-road ∙ ap₂ roadBy ex ey) refl refl refl (omega arith) (omega arith)
-  stepped false true ex ey = with-one false true (leb-true b (high n s) ey) (on-road ∙ ap₂ roadBy ex ey) refl refl refl (omega arith) (omega arith)
+  stepped true y ex ey = with_one true y (omega (arith, leb-true (2 ^ n) (high n s) ex)) (on_road ∙ ap₂ road_by ex ey) refl refl refl (omega arith) (omega arith)
+  stepped false true ex ey = with_one false true (leb-true b (high n s) ey) (on_road ∙ ap₂ road_by ex ey) refl refl refl (omega arith) (omega arith)
   stepped false false ex ey =
       let q = fits_not b p t (high n s) next-high (leb-false b (high n s) ey) in
       let f = next_low in
-      let e = on-road ∙ ap₂ roadBy ex ey in
+      let e = on_road ∙ ap₂ road_by ex ey in
       record {
         j = j;
         p = p * 2 + t;
@@ -226,17 +226,17 @@ module _ (n b d k j t l p : ℕ) (s : Round) (hb : b < 2 ^ n) (pos : 0 < b) (cou
         upper = sym q.1;
         lower = omega arith;
         few = rw pow-suc (omega arith);
-        last = sym (compare-gains e);
-        outs = omega (arith, tally-gains e byShiftedOut);
-        plains = omega (arith, tally-gains e byNoBorrow);
+        last = sym (compare_gains e);
+        outs = omega (arith, tally_gains e by_shifted_out);
+        plains = omega (arith, tally_gains e by_no_borrow);
       }
 
-pub next : (n b d k : ℕ) (s r : Round) → b < 2 ^ n → 0 < b → k < n → Walked n b d k s → r ≡ cordRound n b s → Walked n b d (suc k) r
-unfolding cordRound
+pub next : (n b d k : ℕ) (s r : Round) → b < 2 ^ n → 0 < b → k < n → Walked n b d k s → r ≡ cord_round n b s → Walked n b d (suc k) r
+unfolding cord_round
 next n b d k s r hb pos hk w e = rw e (go w.j w.count w.rest w.whole)
   where
     go : (j : ℕ) → j + k ≡ n → w.l < 2 ^ j → w.p * 2 ^ j + w.l ≡ d
-        → Walked n b d (suc k) (byRoad (leb (2 ^ n) (high n s)) (leb b (high n s)) b (high n s) (low n s) s)
+        → Walked n b d (suc k) (by_road (leb (2 ^ n) (high n s)) (leb b (high n s)) b (high n s) (low n s) s)
     go zero c h i = absurd (omega arith)
     go (suc j) c h i =
         let split = div-add-mod' w.l (2 ^ j) in
@@ -250,36 +250,36 @@ next n b d k s r hb pos hk w e = rw e (go w.j w.count w.rest w.whole)
         w.few w.last w.outs w.plains _ _ refl refl
 
 -- the last compare's left side stays one of n bits: a half that was compared had no bit shifted out
-pub compared-lt : (n b : ℕ) (s : Round) {r : Round} → r ≡ cordRound n b s → s.compared < 2 ^ n → r.compared < 2 ^ n
-unfolding cordRound
-compared-lt n b s e h = rw e (by (leb (2 ^ n) (high n s)) (leb b (high n s)) refl)
+pub compared_lt : (n b : ℕ) (s : Round) {r : Round} → r ≡ cord_round n b s → s.compared < 2 ^ n → r.compared < 2 ^ n
+unfolding cord_round
+compared_lt n b s e h = rw e (by (leb (2 ^ n) (high n s)) (leb b (high n s)) refl)
   where
-    by : (x y : Bool) → leb (2 ^ n) (high n s) ≡ x → (byRoad x y b (high n s) (low n s) s).compared < 2 ^ n
+    by : (x y : Bool) → leb (2 ^ n) (high n s) ≡ x → (by_road x y b (high n s) (low n s) s).compared < 2 ^ n
     by true y t = h
     by false true t = leb-false (2 ^ n) (high n s) t
     by false false t = leb-false (2 ^ n) (high n s) t
 
 -- ---- the answer
 
-pub refuses : (n b a c steps : ℕ) → c < 2 ^ n → b ≤ a → record { outcome = refused; carry = false; compared = a; roads = noRoads; steps = steps + 4 } ≡ cord n b (a * 2 ^ n + c) steps
+pub refuses : (n b a c steps : ℕ) → c < 2 ^ n → b ≤ a → record { outcome = refused; carry = false; compared = a; roads = no_roads; steps = steps + 4 } ≡ cord n b (a * 2 ^ n + c) steps
 unfolding cord
 refuses n b a c steps hc h = rw (digits_div a hc, le-leb b a h)
 
 -- a round makes at most one 1, and by one road
-one-road : (r : Road) → byShiftedOut r + byNoBorrow r ≤ 1
-one-road shiftedOut = omega arith
-one-road noBorrow = omega arith
+one-road : (r : Road) → by_shifted_out r + by_no_borrow r ≤ 1
+one-road shifted_out = omega arith
+one-road no_borrow = omega arith
 one-road borrows = omega arith
 
 -- and so the ones are at most as many as the rounds
-pub most-ones : (n b k p : ℕ) → shiftedOuts n b k p + noBorrows n b k p ≤ k
+pub most_ones : (n b k p : ℕ) → shifted_outs n b k p + no_borrows n b k p ≤ k
 unfolding tally
-most-ones n b zero p = omega arith
-most-ones n b (suc k) p = omega (arith, most-ones n b k (p / 2), one-road (road n b p))
+most_ones n b zero p = omega arith
+most_ones n b (suc k) p = omega (arith, most_ones n b k (p / 2), one-road (road n b p))
 
 -- what a state of the walk offers the next round
-pub ready : (n b d k : ℕ) (s : Round) → 0 < b → Walked n b d k s → (s.tmpa < b) × (s.shiftedOut + s.noBorrow ≤ k)
-ready n b d k s pos w = (omega (arith, w.upper, mod-lt w.p pos), omega (arith, w.outs, w.plains, most-ones n b k w.p))
+pub ready : (n b d k : ℕ) (s : Round) → 0 < b → Walked n b d k s → (s.tmpa < b) × (s.shifted_out + s.no_borrow ≤ k)
+ready n b d k s pos w = (omega (arith, w.upper, mod-lt w.p pos), omega (arith, w.outs, w.plains, most_ones n b k w.p))
 
 -- the answer that the code makes of a state, with C and the steps
 abbrev pub answer_of : Round → Bool → ℕ → CordAnswer
@@ -288,7 +288,7 @@ answer_of s carry t =
       outcome = accepted (record { quotient = s.tmpc; remainder = s.tmpa });
       carry = carry;
       compared = s.compared;
-      roads = bothRoads s.shiftedOut s.noBorrow;
+      roads = both_roads s.shifted_out s.no_borrow;
       steps = t;
     }
 
@@ -298,7 +298,7 @@ module _ (n b a c steps : ℕ) (ha : a < b) (hc : c < 2 ^ n) where
   d = a * 2 ^ n + c
 
   abbrev AtEnd : Round → Type 0
-  AtEnd s = (s.tmpc ≡ d / b) × (s.tmpa ≡ d % b) × (s.compared ≡ lastCompare n b n d) × (s.shiftedOut ≡ shiftedOuts n b n d) × (s.noBorrow ≡ noBorrows n b n d)
+  AtEnd s = (s.tmpc ≡ d / b) × (s.tmpa ≡ d % b) × (s.compared ≡ last_compare n b n d) × (s.shifted_out ≡ shifted_outs n b n d) × (s.no_borrow ≡ no_borrows n b n d)
 
   end : (s : Round) → Walked n b d n s → AtEnd s
   end s w = go w.j w.count w.rest w.whole
@@ -310,23 +310,23 @@ module _ (n b a c steps : ℕ) (ha : a < b) (hc : c < 2 ^ n) where
           let all : w.p ≡ d = omega arith in (
             w.lower ∙ ap₂ (λ (x y : ℕ). x * 2 ^ n + y / b) z all ∙ omega arith,
             w.upper ∙ ap (λ (x : ℕ). x % b) all,
-            w.last ∙ ap (lastCompare n b n) all,
-            w.outs ∙ ap (shiftedOuts n b n) all,
-            w.plains ∙ ap (noBorrows n b n) all,
+            w.last ∙ ap (last_compare n b n) all,
+            w.outs ∙ ap (shifted_outs n b n) all,
+            w.plains ∙ ap (no_borrows n b n) all,
           )
 
   pub cord-accepts : (s : Round) → Walked n b d n s → {carry : Bool} {t : ℕ} → carry ≡ ltb s.tmpc (top n)
-      → t ≡ steps + 6 + 8 * n + s.noBorrow + 2 * (s.tmpc % 2) → answer_of s carry t ≡ cord n b d steps
+      → t ≡ steps + 6 + 8 * n + s.no_borrow + 2 * (s.tmpc % 2) → answer_of s carry t ≡ cord n b d steps
   unfolding cord
   cord-accepts s w {carry} {t} ec et =
       let f = end s w in
       let quotient : s.tmpc ≡ d / b = f.0 in
-      let whole : t ≡ steps + cordSteps n b d = et ∙ rw quotient (omega (arith, f.4)) in
+      let whole : t ≡ steps + cord_steps n b d = et ∙ rw quotient (omega (arith, f.4)) in
       rw (digits_div a hc, lt-leb b a ha)
       (λ i. record {
         outcome = accepted (record { quotient = quotient i; remainder = f.1 i });
         carry = (ec ∙ ap (λ (x : ℕ). ltb x (top n)) quotient) i;
         compared = f.2 i;
-        roads = bothRoads (f.3 i) (f.4 i);
+        roads = both_roads (f.3 i) (f.4 i);
         steps = whole i;
       })

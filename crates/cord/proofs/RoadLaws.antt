@@ -5,30 +5,30 @@ use Prim.Native.Nat.{ℕ, zero, suc, ◌+◌, ◌-◌, ◌*◌, ◌/◌, ◌%◌
 use native.Mathlib.{Nat.add-zero, Nat.pow-suc, Nat.div-add-mod', Nat.div-eq_of_lt, Nat.mod-lt, Nat.div-div-eq-div-mul, Nat.mul_comm, Omega.arith}
 use lib.{Count.ones, Count.ones_cat, Dec.leb, Dec.eqb, Dec.lit<}
 use borrow.Author.Tests.{leb-true, leb-false, lt-leb}
-use Rattle.cord.specs.Cord.{Results, CordOutcome, accepted, refused, cord, shifted, Road, shiftedOut, noBorrow, borrow as borrows, roadBy, road, tally, byShiftedOut, shiftedOuts, byNoBorrow, noBorrows, cordSteps}
-use Rattle.cord.specs.ByRoad.{roadSteps, walkSteps, stepsByRoad}
-use Rattle.cord.proofs.CordLaws.{fits-once, fits_not}
+use Rattle.cord.specs.Cord.{Results, CordOutcome, accepted, refused, cord, shifted, Road, shifted_out, no_borrow, borrow as borrows, road_by, road, tally, by_shifted_out, shifted_outs, by_no_borrow, no_borrows, cord_steps}
+use Rattle.cord.specs.ByRoad.{road_steps, walk_steps, steps_by_road}
+use Rattle.cord.proofs.CordLaws.{fits_once, fits_not}
 
 -- what a round compares is less than twice the divisor
-shifted-lt : (b p : ℕ) → 0 < b → shifted b p < b * 2
-shifted-lt b p pos = omega (arith, mod-lt (p / 2) {m = b} pos, mod-lt p {m = 2} (lit< tt))
+shifted_lt : (b p : ℕ) → 0 < b → shifted b p < b * 2
+shifted_lt b p pos = omega (arith, mod-lt (p / 2) {m = b} pos, mod-lt p {m = 2} (lit< tt))
 
 -- a divisor of at most half the range: no bit is ever shifted out
-pub never-out : (n b p : ℕ) → 0 < b → b * 2 ≤ 2 ^ n → road n b p ≡ roadBy false (leb b (shifted b p))
+pub never_out : (n b p : ℕ) → 0 < b → b * 2 ≤ 2 ^ n → road n b p ≡ road_by false (leb b (shifted b p))
 unfolding road
-never-out n b p pos h = ap (λ (x : Bool). roadBy x (leb b (shifted b p))) (lt-leb (2 ^ n) (shifted b p) (omega (arith, shifted-lt b p pos)))
+never_out n b p pos h = ap (λ (x : Bool). road_by x (leb b (shifted b p))) (lt-leb (2 ^ n) (shifted b p) (omega (arith, shifted_lt b p pos)))
 
 -- a quotient with one bit more
 ones_odd : (q : ℕ) → ones (q * 2 + 1) ≡ ones q + 1
 unfolding ones
 ones_odd q = ones_cat 1 q 1 (lit< tt)
 
-ones-even : (q : ℕ) → ones (q * 2) ≡ ones q
+ones_even : (q : ℕ) → ones (q * 2) ≡ ones q
 unfolding ones
-ones-even q = let z : q * 2 ≡ q * 2 ^ 1 + 0 = omega arith in ap ones z ∙ ones_cat 1 q 0 (lit< tt) ∙ omega arith
+ones_even q = let z : q * 2 ≡ q * 2 ^ 1 + 0 = omega arith in ap ones z ∙ ones_cat 1 q 0 (lit< tt) ∙ omega arith
 
 -- with the bit that a round takes in, the quotient has one more exactly if the round took one of the two roads that make one
-one_more : (n b p : ℕ) → 0 < b → b ≤ 2 ^ n → ones (p / 2 / b) + (byShiftedOut (road n b p) + byNoBorrow (road n b p)) ≡ ones (p / b)
+one_more : (n b p : ℕ) → 0 < b → b ≤ 2 ^ n → ones (p / 2 / b) + (by_shifted_out (road n b p) + by_no_borrow (road n b p)) ≡ ones (p / b)
 unfolding road
 one_more n b p pos hb = by (leb (2 ^ n) (shifted b p)) (leb b (shifted b p)) refl refl
   where
@@ -37,18 +37,18 @@ one_more n b p pos hb = by (leb (2 ^ n) (shifted b p)) (leb b (shifted b p)) ref
 
     odd : b ≤ shifted b p → ones (p / 2 / b) + 1 ≡ ones (p / b)
     odd h =
-        let q = (fits-once b (p / 2) (p % 2) (shifted b p) refl (mod-lt p (lit< tt)) h (mod-lt (p / 2) pos)).0 in
+        let q = (fits_once b (p / 2) (p % 2) (shifted b p) refl (mod-lt p (lit< tt)) h (mod-lt (p / 2) pos)).0 in
         sym (ones_odd (p / 2 / b)) ∙ ap ones (sym q ∙ ap (λ (x : ℕ). x / b) whole)
 
-    by : (x y : Bool) → leb (2 ^ n) (shifted b p) ≡ x → leb b (shifted b p) ≡ y → ones (p / 2 / b) + (byShiftedOut (roadBy x y) + byNoBorrow (roadBy x y)) ≡ ones (p / b)
+    by : (x y : Bool) → leb (2 ^ n) (shifted b p) ≡ x → leb b (shifted b p) ≡ y → ones (p / 2 / b) + (by_shifted_out (road_by x y) + by_no_borrow (road_by x y)) ≡ ones (p / b)
     by true y ex ey = odd (omega (arith, leb-true (2 ^ n) (shifted b p) ex))
     by false true ex ey = odd (leb-true b (shifted b p) ey)
     by false false ex ey =
         let q = (fits_not b (p / 2) (p % 2) (shifted b p) refl (leb-false b (shifted b p) ey)).0 in
-        add-zero (ones (p / 2 / b)) ∙ sym (ones-even (p / 2 / b)) ∙ ap ones (sym q ∙ ap (λ (x : ℕ). x / b) whole)
+        add-zero (ones (p / 2 / b)) ∙ sym (ones_even (p / 2 / b)) ∙ ap ones (sym q ∙ ap (λ (x : ℕ). x / b) whole)
 
 -- so every one of the quotient comes by one of the two
-pub all_ones : (n b k p : ℕ) → 0 < b → b ≤ 2 ^ n → p / 2 ^ k < b → shiftedOuts n b k p + noBorrows n b k p ≡ ones (p / b)
+pub all_ones : (n b k p : ℕ) → 0 < b → b ≤ 2 ^ n → p / 2 ^ k < b → shifted_outs n b k p + no_borrows n b k p ≡ ones (p / b)
 unfolding tally ones
 all_ones n b zero p pos hb small = let none : p / b ≡ 0 = div-eq_of_lt (omega arith) in sym (ap ones none)
 all_ones n b (suc k) p pos hb small = omega (arith, all_ones n b k (p / 2) pos hb halved, one_more n b p pos hb)
@@ -57,40 +57,40 @@ all_ones n b (suc k) p pos hb small = omega (arith, all_ones n b k (p / 2) pos h
     halved = rw div-div-eq-div-mul (rw (mul_comm 2 (2 ^ k), ← pow-suc 2 k) small)
 
 -- with a divisor of at most half the range none comes by a bit shifted out
-pub none_out : (n b k p : ℕ) → 0 < b → b * 2 ≤ 2 ^ n → shiftedOuts n b k p ≡ 0
+pub none_out : (n b k p : ℕ) → 0 < b → b * 2 ≤ 2 ^ n → shifted_outs n b k p ≡ 0
 unfolding tally
 none_out n b zero p pos h = refl
-none_out n b (suc k) p pos h = omega (arith, none_out n b k (p / 2) pos h, ap byShiftedOut (never-out n b p pos h), by (leb b (shifted b p)))
+none_out n b (suc k) p pos h = omega (arith, none_out n b k (p / 2) pos h, ap by_shifted_out (never_out n b p pos h), by (leb b (shifted b p)))
   where
-    by : (y : Bool) → byShiftedOut (roadBy false y) ≡ 0
+    by : (y : Bool) → by_shifted_out (road_by false y) ≡ 0
     by true = refl
     by false = refl
 
 -- and so all come by no borrow
-pub plain-ones : (n b k p : ℕ) → 0 < b → b * 2 ≤ 2 ^ n → p / 2 ^ k < b → noBorrows n b k p ≡ ones (p / b)
+pub plain-ones : (n b k p : ℕ) → 0 < b → b * 2 ≤ 2 ^ n → p / 2 ^ k < b → no_borrows n b k p ≡ ones (p / b)
 plain-ones n b k p pos h small = omega (arith, all_ones n b k p pos (omega arith) small, none_out n b k p pos h)
 
 -- ---- the steps
 
-walk_steps : (n b k p : ℕ) → walkSteps n b k p ≡ 8 * k + noBorrows n b k p
+walk_steps_lem : (n b k p : ℕ) → walk_steps n b k p ≡ 8 * k + no_borrows n b k p
 unfolding tally
-walk_steps n b zero p = refl
-walk_steps n b (suc k) p = omega (arith, walk_steps n b k (p / 2), by (road n b p))
+walk_steps_lem n b zero p = refl
+walk_steps_lem n b (suc k) p = omega (arith, walk_steps_lem n b k (p / 2), by (road n b p))
   where
-    by : (r : Road) → roadSteps r ≡ 8 + byNoBorrow r
-    by shiftedOut = refl
-    by noBorrow = refl
+    by : (r : Road) → road_steps r ≡ 8 + by_no_borrow r
+    by shifted_out = refl
+    by no_borrow = refl
     by borrows = refl
 
 -- road by road they come to the chart's total
-pub road-by-road : (n b d : ℕ) → 0 < n → stepsByRoad n b d ≡ cordSteps n b d
-road-by-road n b d hn = omega (arith, walk_steps n b n d)
+pub road_by-road : (n b d : ℕ) → 0 < n → steps_by_road n b d ≡ cord_steps n b d
+road_by-road n b d hn = omega (arith, walk_steps_lem n b n d)
 
 -- and in the chart's words the total is 7 + 8n and the count of ones by no borrow, plus 1 if the quotient is odd, else minus 1
-pub as-charted : (n b d : ℕ) → cond (eqb (d / b % 2) 1) (7 + 8 * n + noBorrows n b n d + 1) (7 + 8 * n + noBorrows n b n d - 1) ≡ cordSteps n b d
-as-charted n b d = by (d / b % 2) (mod-lt (d / b) {m = 2} (lit< tt))
+pub as_charted : (n b d : ℕ) → cond (eqb (d / b % 2) 1) (7 + 8 * n + no_borrows n b n d + 1) (7 + 8 * n + no_borrows n b n d - 1) ≡ cord_steps n b d
+as_charted n b d = by (d / b % 2) (mod-lt (d / b) {m = 2} (lit< tt))
   where
-    by : (k : ℕ) → k < 2 → cond (eqb k 1) (7 + 8 * n + noBorrows n b n d + 1) (7 + 8 * n + noBorrows n b n d - 1) ≡ 6 + 8 * n + noBorrows n b n d + 2 * k
+    by : (k : ℕ) → k < 2 → cond (eqb k 1) (7 + 8 * n + no_borrows n b n d + 1) (7 + 8 * n + no_borrows n b n d - 1) ≡ 6 + 8 * n + no_borrows n b n d + 2 * k
     by zero h = omega arith
     by (suc zero) h = omega arith
     by (suc (suc k)) h = absurd (omega arith)
@@ -98,16 +98,16 @@ as-charted n b d = by (d / b % 2) (mod-lt (d / b) {m = 2} (lit< tt))
 -- ---- of CORD's answer
 
 -- the two tallies of one that it accepts add up to the ones of its quotient
-pub cord-adds-up : (n b d steps : ℕ) {r : Results} → b ≤ 2 ^ n → (cord n b d steps).outcome ≡ accepted r
-    → (cord n b d steps).roads.shiftedOut + (cord n b d steps).roads.noBorrow ≡ ones r.quotient
+pub cord_adds_up : (n b d steps : ℕ) {r : Results} → b ≤ 2 ^ n → (cord n b d steps).outcome ≡ accepted r
+    → (cord n b d steps).roads.shifted_out + (cord n b d steps).roads.no_borrow ≡ ones r.quotient
 unfolding cord
-cord-adds-up n b d steps {r} hb e = by (leb b (d / 2 ^ n)) refl
+cord_adds_up n b d steps {r} hb e = by (leb b (d / 2 ^ n)) refl
   where
     is_refused : CordOutcome → Bool
     is_refused (accepted r) = false
     is_refused refused = true
 
-    by : (x : Bool) → leb b (d / 2 ^ n) ≡ x → (cord n b d steps).roads.shiftedOut + (cord n b d steps).roads.noBorrow ≡ ones r.quotient
+    by : (x : Bool) → leb b (d / 2 ^ n) ≡ x → (cord n b d steps).roads.shifted_out + (cord n b d steps).roads.no_borrow ≡ ones r.quotient
     by true h = let e' = rw h at e in absurd (true≢false (ap is_refused e'))
     by false h =
         let e' = rw h at e in

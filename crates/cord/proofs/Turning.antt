@@ -4,8 +4,8 @@ use Prim.Native.Nat.{ℕ, suc, ◌+◌, ◌*◌, ◌%◌, ◌^◌, ◌≤◌, �
 use native.Mathlib.Omega.{arith}
 use lib.{Arith.digits_div, Arith.digits_mod, Dec.ltb}
 use Rattle.numbers.specs.Numbers.{top}
-use Rattle.cord.specs.{Round.Round, Round.cordRound, Cord.cord}
-use Rattle.cord.proofs.CordLaws.{halved, Walked, begin, next, compared-lt, ready, answer_of, cord-accepts}
+use Rattle.cord.specs.{Round.Round, Round.cord_round, Cord.cord}
+use Rattle.cord.proofs.CordLaws.{halved, Walked, begin, next, compared_lt, ready, answer_of, cord-accepts}
 
 -- so many rounds are made and so many left, of operands that passed the first compare
 pub record Turning (n a b c : ℕ) (at : Round) (left : ℕ) : Type 0 where
@@ -26,18 +26,18 @@ starts n a b c h16 ha hb hc =
 
 module _ {n a b c : ℕ} {at : Round} {left : ℕ} (t : Turning n a b c at left) where
   -- what a round asks for
-  pub may-turn : (at.tmpa < b) × (at.shiftedOut + at.noBorrow ≤ 16)
-  may-turn =
+  pub may_turn : (at.tmpa < b) × (at.shifted_out + at.no_borrow ≤ 16)
+  may_turn =
       let r = ready n b (a * 2 ^ n + c) t.rounds at (omega (arith, t.passed)) t.walked in
       (r.0, omega (arith, r.1, t.count, t.narrow))
 
-  pub turns : {r : Round} → r ≡ cordRound n b at → {less : ℕ} → suc less ≡ left → Turning n a b c r less
+  pub turns : {r : Round} → r ≡ cord_round n b at → {less : ℕ} → suc less ≡ left → Turning n a b c r less
   turns {r} e el =
       record {
         rounds = suc t.rounds;
         walked = next n b (a * 2 ^ n + c) t.rounds at r t.divisor (omega (arith, t.passed)) (omega (arith, t.count)) t.walked e;
         count = omega (arith, t.count);
-        within = compared-lt n b at e t.within;
+        within = compared_lt n b at e t.within;
         passed = t.passed;
         divisor = t.divisor;
         lower = t.lower;
@@ -45,7 +45,7 @@ module _ {n a b c : ℕ} {at : Round} {left : ℕ} (t : Turning n a b c at left)
       }
 
   -- after the last round its state is the answer
-  pub ends : (steps : ℕ) → left ≡ 0 → {carry : Bool} {all : ℕ} → carry ≡ ltb at.tmpc (top n) → all ≡ steps + 6 + 8 * n + at.noBorrow + 2 * (at.tmpc % 2)
+  pub ends : (steps : ℕ) → left ≡ 0 → {carry : Bool} {all : ℕ} → carry ≡ ltb at.tmpc (top n) → all ≡ steps + 6 + 8 * n + at.no_borrow + 2 * (at.tmpc % 2)
       → answer_of at carry all ≡ cord n b (a * 2 ^ n + c) steps
   ends steps none =
       let whole : t.rounds ≡ n = omega (arith, t.count) in

@@ -2,9 +2,9 @@
 // the dividend out on the left and one bit of the quotient in on the right. The chip collects the quotient's
 // complement and inverts it at the end; here the quotient itself is collected.
 ghost use Rattle.std.specs.Prelude.{◌≡◌, ◌+◌, ◌*◌, ◌/◌, ◌<◌};
-ghost use Rattle.cord.specs.Round.{cordRound};
+ghost use Rattle.cord.specs.Round.{cord_round};
 ghost use Rattle.cord.specs.Cord.{cord};
-ghost use Rattle.cord.specs.Views.{round8, round16, cordAnswer8, cordAnswer16};
+ghost use Rattle.cord.specs.Views.{round8, round16, cord_answer8, cord_answer16};
 
 use flags::width::{Width8, Width16};
 
@@ -46,7 +46,7 @@ pub struct CordAnswer8 {
 // quotient's one already in it, so the subtraction does not wait for that bit.
 fn cord_round8(from: CordRound8, tmpb: u8) -> CordRound8
     requires { (from.both / 0x100 < tmpb) × (from.shifted_out < 100) × (from.no_borrow < 100) }
-    ensures { round8 result ≡ cordRound 8 tmpb (round8 from) }
+    ensures { round8 result ≡ cord_round 8 tmpb (round8 from) }
 {
     let divisor = tmpb as u32 * 0x100;
     let shifted = from.both * 2;
@@ -81,7 +81,7 @@ fn cord_round8(from: CordRound8, tmpb: u8) -> CordRound8
 // A one by no borrow takes 1 more, and an odd quotient 2.
 pub fn cord8(tmpa: u8, tmpb: u8, tmpc: u8, steps: u16) -> CordAnswer8
     requires { steps < 100 }
-    ensures { cordAnswer8 result ≡ cord 8 tmpb (tmpa * 0x100 + tmpc) steps }
+    ensures { cord_answer8 result ≡ cord 8 tmpb (tmpa * 0x100 + tmpc) steps }
 {
     if tmpb <= tmpa {
         return CordAnswer8 {
@@ -157,7 +157,7 @@ pub struct CordAnswer16 {
 // quotient's one already in it, so the subtraction does not wait for that bit.
 fn cord_round16(from: CordRound16, tmpb: u16) -> CordRound16
     requires { (from.both / 0x1_0000 < tmpb) × (from.shifted_out < 100) × (from.no_borrow < 100) }
-    ensures { round16 result ≡ cordRound 16 tmpb (round16 from) }
+    ensures { round16 result ≡ cord_round 16 tmpb (round16 from) }
 {
     let divisor = tmpb as u64 * 0x1_0000;
     let shifted = from.both * 2;
@@ -192,7 +192,7 @@ fn cord_round16(from: CordRound16, tmpb: u16) -> CordRound16
 // A one by no borrow takes 1 more, and an odd quotient 2.
 pub fn cord16(tmpa: u16, tmpb: u16, tmpc: u16, steps: u16) -> CordAnswer16
     requires { steps < 100 }
-    ensures { cordAnswer16 result ≡ cord 16 tmpb (tmpa * 0x1_0000 + tmpc) steps }
+    ensures { cord_answer16 result ≡ cord 16 tmpb (tmpa * 0x1_0000 + tmpc) steps }
 {
     if tmpb <= tmpa {
         return CordAnswer16 {

@@ -6,19 +6,19 @@ use native.Mathlib.{Nat.pow-suc, Nat.mod-lt, Nat.div-add-mod', Nat.le_of_lt, Nat
 use lib.{Pow.pow_mono, Arith.digits_lt, Arith.digits_mod, Count.ones, Count.ones_cat, Count.ones-le, Dec.lit<}
 use Rattle.numbers.specs.Numbers.{bit}
 use Rattle.numbers.proofs.Powers.{product_lt}
-use Rattle.corx.specs.{Corx.Halves, Corx.corx, InPlace.addRound, declared.AddRound.AddRound}
+use Rattle.corx.specs.{Corx.Halves, Corx.corx, InPlace.add_round, declared.AddRound.AddRound}
 
 -- a round adds at most the addend
-pub once-le : (x d : ℕ) → d < 2 → x * d ≤ x
-once-le x zero h = omega arith
-once-le x (suc zero) h = omega arith
-once-le x (suc (suc d)) h = absurd (omega arith)
+pub once_le : (x d : ℕ) → d < 2 → x * d ≤ x
+once_le x zero h = omega arith
+once_le x (suc zero) h = omega arith
+once_le x (suc (suc d)) h = absurd (omega arith)
 
 -- a round from its four parts
-pub round-of : (s : AddRound) {r : AddRound} → r.product ≡ s.product + s.addend * (s.multiplier % 2) → r.addend ≡ s.addend * 2 → r.multiplier ≡ s.multiplier / 2
-    → r.steps ≡ s.steps + 5 + s.multiplier % 2 → r ≡ addRound s
-unfolding addRound
-round-of s p a m t = λ i. record { product = p i; addend = a i; multiplier = m i; steps = t i }
+pub round_of : (s : AddRound) {r : AddRound} → r.product ≡ s.product + s.addend * (s.multiplier % 2) → r.addend ≡ s.addend * 2 → r.multiplier ≡ s.multiplier / 2
+    → r.steps ≡ s.steps + 5 + s.multiplier % 2 → r ≡ add_round s
+unfolding add_round
+round_of s p a m t = λ i. record { product = p i; addend = a i; multiplier = m i; steps = t i }
 
 -- the multiplier with the carry that enters above it
 abbrev pub multiplier : ℕ → ℕ → Bool → ℕ
@@ -47,9 +47,9 @@ ones-digit zero h = refl
 ones-digit (suc zero) h = refl
 ones-digit (suc (suc d)) h = absurd (omega arith)
 
-module _ (b m start k : ℕ) (s : AddRound) {r : AddRound} (er : r ≡ addRound s) (w : Walked b m start k s) where
+module _ (b m start k : ℕ) (s : AddRound) {r : AddRound} (er : r ≡ add_round s) (w : Walked b m start k s) where
   pub next : Walked b m start (k + 1) (jumped r)
-  unfolding addRound
+  unfolding add_round
   next = rw (er, add-one k) (record {
     q = d * 2 ^ k + w.q;
     whole = w.whole ∙ ap (λ (x : ℕ). x * 2 ^ k + w.q) (sym (div-add-mod' s.multiplier 2)) ∙ rw twok (omega arith);
@@ -69,18 +69,18 @@ module _ (b m start k : ℕ) (s : AddRound) {r : AddRound} (er : r ≡ addRound 
       twok = pow-suc 2 k
 
 -- the steps at each place are few
-pub few-steps : (b m start k : ℕ) (s : AddRound) → Walked b m start k s → k ≤ 16 → start < 1000 → s.steps < 1200
-few-steps b m start k s w hk hs = omega (arith, w.paid, ones-le k w.q w.used)
+pub few_steps : (b m start k : ℕ) (s : AddRound) → Walked b m start k s → k ≤ 16 → start < 1000 → s.steps < 1200
+few_steps b m start k s w hk hs = omega (arith, w.paid, ones-le k w.q w.used)
 
 -- what a round asks for
 pub ready : (b m start k : ℕ) (s : AddRound) → Walked b m start k s → b < 2 ^ 16 → k ≤ 15 → start < 1000 → (s.product < 2 ^ 31) × (s.addend < 2 ^ 31) × (s.steps < 2000)
 ready b m start k s w hb hk hs =
     let most = mul-le-mul_left b (pow_mono hk) in
     let part = mul-le-mul_left b (le_of_lt w.used) in
-    (omega (arith, w.made), omega (arith, w.moved), omega (arith, few-steps b m start k s w (omega arith) hs))
+    (omega (arith, w.made), omega (arith, w.moved), omega (arith, few_steps b m start k s w (omega arith) hs))
 
 -- the last round has no jump back
-module _ (n b c : ℕ) (carry : Bool) (start k : ℕ) (s : AddRound) {r : AddRound} (er : r ≡ addRound s) (w : Walked b (multiplier n c carry) start k s) (e : k + 1 ≡ n) (hc : c < 2 ^ n) where
+module _ (n b c : ℕ) (carry : Bool) (start k : ℕ) (s : AddRound) {r : AddRound} (er : r ≡ add_round s) (w : Walked b (multiplier n c carry) start k s) (e : k + 1 ≡ n) (hc : c < 2 ^ n) where
   last : Walked b (multiplier n c carry) start n (jumped r)
   last = subst (λ (x : ℕ). Walked b (multiplier n c carry) start x (jumped r)) e (next b (multiplier n c carry) start k s er w)
 
@@ -91,8 +91,8 @@ module _ (n b c : ℕ) (carry : Bool) (start k : ℕ) (s : AddRound) {r : AddRou
   exact = last.made ∙ ap (λ (x : ℕ). b * x) all
 
   -- and so its halves fit
-  pub two-halves : b < 2 ^ n → r.product < 2 ^ (n + n)
-  two-halves hb = omega (arith, exact, product_lt n hb hc)
+  pub two_halves : b < 2 ^ n → r.product < 2 ^ (n + n)
+  two_halves hb = omega (arith, exact, product_lt n hb hc)
 
   pub ends : ◌≡◌ {A = Halves} (record { tmpa = r.product / 2 ^ n; tmpc = r.product % 2 ^ n; steps = r.steps + 2 }) (corx n b c start)
   unfolding corx

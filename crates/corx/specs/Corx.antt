@@ -26,8 +26,8 @@ abbrev pub added : ℕ → CorxRound → ℕ
 added b s = s.tmpa + cond s.carry b 0
 
 -- the round, with 5 steps and 1 more where it adds
-unfoldable pub corxRound : ℕ → ℕ → CorxRound → CorxRound
-corxRound n b s =
+unfoldable pub corx_round : ℕ → ℕ → CorxRound → CorxRound
+corx_round n b s =
     record {
       tmpa = added b s / 2;
       tmpc = (added b s % 2 * 2 ^ n + s.tmpc) / 2;

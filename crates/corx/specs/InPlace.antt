@@ -3,8 +3,8 @@ use Rattle.std.specs.Prelude.{◌+◌, ◌*◌, ◌/◌, ◌%◌}
 use Rattle.corx.specs.declared.AddRound.{AddRound}
 
 -- it adds if the multiplier's lowest bit is 1; the addend shifts left by one, and the multiplier right. 5 steps, and 1 more if it adds
-unfoldable pub addRound : AddRound → AddRound
-addRound s =
+unfoldable pub add_round : AddRound → AddRound
+add_round s =
     record {
       product = s.product + s.addend * (s.multiplier % 2);
       addend = s.addend * 2;

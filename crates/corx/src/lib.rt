@@ -1,9 +1,9 @@
 // CORX, the microcode's multiply: each round takes the lowest bit off the multiplier. The chip adds to the upper
 // half and shifts both halves right. Here the product stays in place and the addend shifts left, so no round
-// waits for the sum of the round before. The law `chip-walks` says that both ways give the same halves and steps.
+// waits for the sum of the round before. The law `chip_walks` says that both ways give the same halves and steps.
 ghost use Rattle.std.specs.Prelude.{◌≡◌, ◌<◌};
 ghost use Rattle.corx.specs.Corx.{corx};
-ghost use Rattle.corx.specs.InPlace.{addRound};
+ghost use Rattle.corx.specs.InPlace.{add_round};
 ghost use Rattle.corx.specs.Views.{halves8, halves16};
 
 use flags::width::{Width8, Width16};
@@ -36,7 +36,7 @@ pub struct AddRound {
 // mispredicted half the time, so the addend is multiplied by the bit.
 fn corx_round(from: AddRound) -> AddRound
     requires { (from.product < 0x8000_0000) × (from.addend < 0x8000_0000) × (from.steps < 2000) }
-    ensures { result ≡ addRound from }
+    ensures { result ≡ add_round from }
 {
     let bit = from.multiplier % 2;
     AddRound {

@@ -5,11 +5,11 @@ use native.Mathlib.Omega.{arith}
 use Rattle.flags.specs.declared.word.Flags.{Flags}
 use Rattle.negate.specs.Negate.{Negate}
 use Rattle.cord.specs.Cord as Cord
-use Rattle.cord.specs.Cord.{Results, CordAnswer, noRoads, cord}
-use Rattle.idiv.specs.Idiv.{PostAnswer, preIdiv, postIdiv}
-use Rattle.divide.specs.{Flags.compare_flags, Divide.refused, Divide.dividendOf, Divide.divisor_of, Divide.preSteps, Divide.divide, Finish.firstRefusal, Finish.finished}
+use Rattle.cord.specs.Cord.{Results, CordAnswer, no_roads, cord}
+use Rattle.idiv.specs.Idiv.{PostAnswer, pre_idiv, post_idiv}
+use Rattle.divide.specs.{Flags.compare_flags, Divide.refused, Divide.dividend_of, Divide.divisor_of, Divide.pre_steps, Divide.divide, Finish.first_refusal, Finish.finished}
 use Rattle.divide.specs.declared.div.Refusal.{Refusal}
-use Rattle.divide.proofs.DivLaws.{few-steps, pre-divisor, pre-flag, pre-few, pre-most, cord-of-pre, signed-refused, signed-finished}
+use Rattle.divide.proofs.DivLaws.{few_steps, pre_divisor, pre_flag, pre_few, pre_most, cord_of_pre, signed-refused, signed-finished}
 
 -- the operands, and what PREIDIV hands on
 pub record AfterPre (n : ℕ) : Type 0 where
@@ -20,36 +20,36 @@ pub record AfterPre (n : ℕ) : Type 0 where
   pub some : 0 < n
   pub wide : dividend < 2 ^ (n + n)
   pub fits : divisor < 2 ^ n
-  pub handed : pre ≡ preIdiv n (record { tmpa = dividend / 2 ^ n; tmpc = dividend % 2 ^ n; negFlag = rep; steps = 4 }) divisor
+  pub handed : pre ≡ pre_idiv n (record { tmpa = dividend / 2 ^ n; tmpc = dividend % 2 ^ n; neg_flag = rep; steps = 4 }) divisor
 
 module _ (n : ℕ) (s : AfterPre n) where
   -- what CORD has to answer
   abbrev pub onward : CordAnswer
-  onward = cord n (divisor_of n true s.divisor) (dividendOf n true s.dividend) (6 + preSteps n s.dividend s.divisor)
+  onward = cord n (divisor_of n true s.divisor) (dividend_of n true s.dividend) (6 + pre_steps n s.dividend s.divisor)
 
-  pub few-before : s.pre.steps ≤ 17
-  few-before = pre-few n s.dividend s.divisor s.rep s.some s.wide s.fits s.handed
+  pub few_before : s.pre.steps ≤ 17
+  few_before = pre_few n s.dividend s.divisor s.rep s.some s.wide s.fits s.handed
 
   pub goes_on : {a : CordAnswer} → a ≡ cord n s.pre.tmpb (s.pre.tmpa * 2 ^ n + s.pre.tmpc) (s.pre.steps + 2) → a ≡ onward
-  goes_on = cord-of-pre n s.dividend s.divisor s.rep s.some s.wide s.fits s.handed
+  goes_on = cord_of_pre n s.dividend s.divisor s.rep s.some s.wide s.fits s.handed
 
   -- the right side of every compare
   right : s.pre.tmpb ≡ divisor_of n true s.divisor
-  right = pre-divisor n s.dividend s.divisor s.rep s.some s.wide s.fits s.handed
+  right = pre_divisor n s.dividend s.divisor s.rep s.some s.wide s.fits s.handed
 
   module _ {a : CordAnswer} (e : a ≡ onward) where
-    pub refuses : (f : Flags) → a.outcome ≡ Cord.refused → {why : Refusal} → why ≡ firstRefusal s.divisor
+    pub refuses : (f : Flags) → a.outcome ≡ Cord.refused → {why : Refusal} → why ≡ first_refusal s.divisor
         → {g : Flags} → g ≡ compare_flags n a.compared s.pre.tmpb a.carry f
-        → record { outcome = refused why; flags = g; roads = noRoads; steps = a.steps } ≡ divide n true s.rep s.dividend s.divisor f
+        → record { outcome = refused why; flags = g; roads = no_roads; steps = a.steps } ≡ divide n true s.rep s.dividend s.divisor f
     refuses f h ew = signed-refused n s.dividend s.divisor s.rep s.some s.wide s.fits f e h ew right
 
-    pub few-after : n ≤ 16 → {r : Results} → a.outcome ≡ Cord.accepted r → a.steps ≤ 175
-    few-after hn h = omega (arith, few-steps n _ _ (6 + preSteps n s.dividend s.divisor) hn e h, pre-most n s.dividend s.divisor)
+    pub few_after : n ≤ 16 → {r : Results} → a.outcome ≡ Cord.accepted r → a.steps ≤ 175
+    few_after hn h = omega (arith, few_steps n _ _ (6 + pre_steps n s.dividend s.divisor) hn e h, pre_most n s.dividend s.divisor)
 
     pub finishes : (f : Flags) {r : Results} → a.outcome ≡ Cord.accepted r
-        → (p : PostAnswer) → p ≡ postIdiv n r (s.dividend / 2 ^ n) a.carry s.pre.negFlag (a.steps + 3)
+        → (p : PostAnswer) → p ≡ post_idiv n r (s.dividend / 2 ^ n) a.carry s.pre.neg_flag (a.steps + 3)
         → {g : Flags} → g ≡ compare_flags n a.compared s.pre.tmpb a.carry f
         → finished p g a.roads ≡ divide n true s.rep s.dividend s.divisor f
     finishes f h p ep eg =
         signed-finished n s.dividend s.divisor s.rep s.some s.wide s.fits f e h
-        (pre-flag n s.dividend s.divisor s.rep s.some s.wide s.fits s.handed) p ep right eg
+        (pre_flag n s.dividend s.divisor s.rep s.some s.wide s.fits s.handed) p ep right eg

@@ -9,9 +9,9 @@ use Prim.Native.Nat.{ℕ, ◌+◌, ◌-◌, ◌*◌, ◌^◌, ◌≤◌, ◌<◌
 use native.Mathlib.Omega.{arith}
 use lib.IntN.{ℤ, nat_abs}
 use Rattle.flags.specs.declared.word.Flags.{Flags}
-use Rattle.numbers.proofs.Powers.{top-twice}
+use Rattle.numbers.proofs.Powers.{top_twice}
 use Rattle.divide.specs.{Divide.accepts, Divide.quotient_of, Divide.divide, StepLog.logged}
-use Rattle.divide.proofs.RoadsOfDivides.{steps-and-shifted-out, none-shifted-out}
+use Rattle.divide.proofs.RoadsOfDivides.{steps_and_shifted_out, none_shifted_out}
 
 -- two accepted unsigned divides of one width, REP and flags either way on each, with equal quotients
 module _ (n : ℕ) (hn : 0 < n) (d b d' b' : ℕ) (rep rep' : Bool) (f f' : Flags)
@@ -19,19 +19,19 @@ module _ (n : ℕ) (hn : 0 < n) (d b d' b' : ℕ) (rep rep' : Bool) (f f' : Flag
     (yes-1 : accepts n false d b ≡ true) (yes-2 : accepts n false d' b' ≡ true)
     (quotients : quotient_of n false d b ≡ quotient_of n false d' b') where
   -- steps and first tally come to the same sum
-  one-sum : (divide n false rep d b f).steps + (divide n false rep d b f).roads.shiftedOut ≡ (divide n false rep' d' b' f').steps + (divide n false rep' d' b' f').roads.shiftedOut
-  one-sum =
-      steps-and-shifted-out n false rep d b f hn hd hb yes-1
+  one_sum : (divide n false rep d b f).steps + (divide n false rep d b f).roads.shifted_out ≡ (divide n false rep' d' b' f').steps + (divide n false rep' d' b' f').roads.shifted_out
+  one_sum =
+      steps_and_shifted_out n false rep d b f hn hd hb yes-1
       ∙ ap (λ (q : ℤ). 13 + 8 * n + logged (nat_abs q)) quotients
-      ∙ sym (steps-and-shifted-out n false rep' d' b' f' hn hd' hb' yes-2)
+      ∙ sym (steps_and_shifted_out n false rep' d' b' f' hn hd' hb' yes-2)
 
   -- their steps are equal exactly when their first tallies are
-  pub unsigned-companion : ((divide n false rep d b f).steps ≡ (divide n false rep' d' b' f').steps) ↔ ((divide n false rep d b f).roads.shiftedOut ≡ (divide n false rep' d' b' f').roads.shiftedOut)
-  unsigned-companion = (λ e. omega (arith, e, one-sum), λ e. omega (arith, e, one-sum))
+  pub unsigned_companion : ((divide n false rep d b f).steps ≡ (divide n false rep' d' b' f').steps) ↔ ((divide n false rep d b f).roads.shifted_out ≡ (divide n false rep' d' b' f').roads.shifted_out)
+  unsigned_companion = (λ e. omega (arith, e, one_sum), λ e. omega (arith, e, one_sum))
 
   -- and always are with divisors of at most 2 ^ (n - 1)
-  pub small-divisors-alike : b ≤ 2 ^ (n - 1) → b' ≤ 2 ^ (n - 1) → (divide n false rep d b f).steps ≡ (divide n false rep' d' b' f').steps
-  small-divisors-alike h h' =
-      let none = none-shifted-out n false rep d b f hn hd hb (omega (arith, top-twice n hn)) in
-      let none' = none-shifted-out n false rep' d' b' f' hn hd' hb' (omega (arith, top-twice n hn)) in
-      omega (arith, one-sum, none, none')
+  pub small_divisors_alike : b ≤ 2 ^ (n - 1) → b' ≤ 2 ^ (n - 1) → (divide n false rep d b f).steps ≡ (divide n false rep' d' b' f').steps
+  small_divisors_alike h h' =
+      let none = none_shifted_out n false rep d b f hn hd hb (omega (arith, top_twice n hn)) in
+      let none' = none_shifted_out n false rep' d' b' f' hn hd' hb' (omega (arith, top_twice n hn)) in
+      omega (arith, one_sum, none, none')

@@ -8,15 +8,15 @@ use lib.{Arith.digits_div, Arith.digits_mod, Dec.leb, Dec.ltb, Dec.eqb, Dec.leb-
 use lib.{Pow.pow_pos, Signed.quot_z, Signed.rem_z, Signed.le_z}
 use borrow.Author.Tests.{leb-true, leb-false, ltb-true, ltb-false, le-leb, lt-leb, lt-ltb, le-ltb, ne_eqb}
 use Rattle.numbers.specs.Numbers.{top}
-use Rattle.numbers.proofs.SignedLaws.{Diff, above, below, diff-add, diff-neg, same_test}
-use Rattle.numbers.proofs.SignLaws.{sign_of, abs-sign, mul-sign, quot-sign, rem-sign}
-use Rattle.divide.specs.{Divide.accepts, Divide.quotient_of, Manual.negative, Manual.Division, Manual.largestQuotient, Manual.in_range}
+use Rattle.numbers.proofs.SignedLaws.{Diff, above, below, diff_add, diff_neg, same_test}
+use Rattle.numbers.proofs.SignLaws.{sign_of, abs_sign, mul-sign, quot_sign, rem_sign}
+use Rattle.divide.specs.{Divide.accepts, Divide.quotient_of, Manual.negative, Manual.Division, Manual.largest_quotient, Manual.in_range}
 use Rattle.divide.proofs.DivLaws.{below as quotient-below}
 
 -- every number is its sign and its magnitude
-sign-of : (z : ℤ) → z ≡ sign_of (negative z) (nat_abs z)
-sign-of (pos k) = refl
-sign-of (negsuc k) = refl
+sign_of : (z : ℤ) → z ≡ sign_of (negative z) (nat_abs z)
+sign_of (pos k) = refl
+sign_of (negsuc k) = refl
 
 zeros : (s t : Bool) → sign_of s 0 ≡ sign_of t 0
 zeros true true = refl
@@ -25,18 +25,18 @@ zeros false true = refl
 zeros false false = refl
 
 -- a remainder has the dividend's sign, 0 having either
-with-sign : (z r : ℤ) → (nat_abs r ≡ 0) ⊎ (negative r ≡ negative z) → r ≡ sign_of (negative z) (nat_abs r)
-with-sign z r (inl e) = sign-of r ∙ ap (sign_of (negative r)) e ∙ zeros (negative r) (negative z) ∙ ap (sign_of (negative z)) (sym e)
-with-sign z r (inr e) = sign-of r ∙ ap (λ (s : Bool). sign_of s (nat_abs r)) e
+with_sign_lem : (z r : ℤ) → (nat_abs r ≡ 0) ⊎ (negative r ≡ negative z) → r ≡ sign_of (negative z) (nat_abs r)
+with_sign_lem z r (inl e) = sign_of r ∙ ap (sign_of (negative r)) e ∙ zeros (negative r) (negative z) ∙ ap (sign_of (negative z)) (sym e)
+with_sign_lem z r (inr e) = sign_of r ∙ ap (λ (s : Bool). sign_of s (nat_abs r)) e
 
 -- a sign and a magnitude as a difference
 abbrev part : Bool → ℕ → ℕ
 part true m = m
 part false m = 0
 
-diff-sign : (s : Bool) (m : ℕ) → Diff (sign_of s m) (part (not s) m) (part s m)
-diff-sign true m = diff-neg (above m m 0 (omega arith))
-diff-sign false m = above m m 0 (omega arith)
+diff_sign : (s : Bool) (m : ℕ) → Diff (sign_of s m) (part (not s) m) (part s m)
+diff_sign true m = diff_neg (above m m 0 (omega arith))
+diff_sign false m = above m m 0 (omega arith)
 
 -- one number is one difference
 abbrev up : ℤ → ℕ
@@ -47,88 +47,88 @@ abbrev down : ℤ → ℕ
 down (pos k) = 0
 down (negsuc k) = suc k
 
-diff-out : {z : ℤ} {u v : ℕ} → Diff z u v → u + down z ≡ v + up z
-diff-out (above m u v d) = omega arith
-diff-out (below m u v d) = omega arith
+diff_out : {z : ℤ} {u v : ℕ} → Diff z u v → u + down z ≡ v + up z
+diff_out (above m u v d) = omega arith
+diff_out (below m u v d) = omega arith
 
 moved : {z w : ℤ} {u v : ℕ} → z ≡ w → Diff z u v → Diff w u v
 moved {u} {v} e d = subst (λ (x : ℤ). Diff x u v) e d
 
 -- a product p of sign u and a remainder ρ of the dividend's sign s make a dividend of magnitude a: the signs agree, or the product is the
 -- smaller of two that differ
-same-signs : (u s : Bool) (p ρ a : ℕ) → part (not u) p + part (not s) ρ + part s a ≡ part u p + part s ρ + part (not s) a
+same_signs : (u s : Bool) (p ρ a : ℕ) → part (not u) p + part (not s) ρ + part s a ≡ part u p + part s ρ + part (not s) a
     → ((u ≡ s) × (p + ρ ≡ a)) ⊎ (p + a ≡ ρ)
-same-signs true true p ρ a e = inl (refl, omega arith)
-same-signs true false p ρ a e = inr (omega arith)
-same-signs false true p ρ a e = inr (omega arith)
-same-signs false false p ρ a e = inl (refl, omega arith)
+same_signs true true p ρ a e = inl (refl, omega arith)
+same_signs true false p ρ a e = inr (omega arith)
+same_signs false true p ρ a e = inr (omega arith)
+same_signs false false p ρ a e = inl (refl, omega arith)
 
 -- a multiple of b below b is none of it
-no-multiple : (k b : ℕ) → k * b < b → k ≡ 0
-no-multiple zero b h = refl
-no-multiple (suc k) b h = absurd (omega arith)
+no_multiple : (k b : ℕ) → k * b < b → k ≡ 0
+no_multiple zero b h = refl
+no_multiple (suc k) b h = absurd (omega arith)
 
-xor-back : (x s t : Bool) → xor x t ≡ s → x ≡ xor s t
+xor_back : (x s t : Bool) → xor x t ≡ s → x ≡ xor s t
 unfolding xor
-xor-back true true true e = sym e
-xor-back true true false e = refl
-xor-back true false true e = refl
-xor-back true false false e = e
-xor-back false true true e = refl
-xor-back false true false e = e
-xor-back false false true e = sym e
-xor-back false false false e = refl
+xor_back true true true e = sym e
+xor_back true true false e = refl
+xor_back true false true e = refl
+xor_back true false false e = e
+xor_back false true true e = refl
+xor_back false true false e = e
+xor_back false false true e = sym e
+xor_back false false false e = refl
 
 module _ (z w q r : ℤ) (h : Division z w q r) where
   sides : part (not (xor (negative q) (negative w))) (nat_abs q * nat_abs w) + part (not (negative z)) (nat_abs r) + part (negative z) (nat_abs z)
       ≡ part (xor (negative q) (negative w)) (nat_abs q * nat_abs w) + part (negative z) (nat_abs r) + part (not (negative z)) (nat_abs z)
   sides =
       let product : q *ℤ w ≡ sign_of (xor (negative q) (negative w)) (nat_abs q * nat_abs w) =
-      ap₂ ◌*ℤ◌ (sign-of q) (sign-of w) ∙ mul-sign (negative q) (negative w) (nat_abs q) (nat_abs w) in
-      let left = diff-add (diff-sign (xor (negative q) (negative w)) (nat_abs q * nat_abs w)) (diff-sign (negative z) (nat_abs r)) in
+      ap₂ ◌*ℤ◌ (sign_of q) (sign_of w) ∙ mul-sign (negative q) (negative w) (nat_abs q) (nat_abs w) in
+      let left = diff_add (diff_sign (xor (negative q) (negative w)) (nat_abs q * nat_abs w)) (diff_sign (negative z) (nat_abs r)) in
       let whole : sign_of (xor (negative q) (negative w)) (nat_abs q * nat_abs w) +ℤ sign_of (negative z) (nat_abs r) ≡ z =
-      ap₂ ◌+ℤ◌ (sym product) (sym (with-sign z r h.sign)) ∙ h.whole in
+      ap₂ ◌+ℤ◌ (sym product) (sym (with_sign_lem z r h.sign)) ∙ h.whole in
       let one : part (not (xor (negative q) (negative w))) (nat_abs q * nat_abs w) + part (not (negative z)) (nat_abs r) + down z
-      ≡ part (xor (negative q) (negative w)) (nat_abs q * nat_abs w) + part (negative z) (nat_abs r) + up z = diff-out (moved whole left) in
+      ≡ part (xor (negative q) (negative w)) (nat_abs q * nat_abs w) + part (negative z) (nat_abs r) + up z = diff_out (moved whole left) in
       let other : part (not (negative z)) (nat_abs z) + down z ≡ part (negative z) (nat_abs z) + up z =
-      diff-out (moved (sym (sign-of z)) (diff-sign (negative z) (nat_abs z))) in
+      diff_out (moved (sym (sign_of z)) (diff_sign (negative z) (nat_abs z))) in
       omega arith
 
   -- what the three conditions say of the magnitudes, and of the quotient's sign
   magnitudes : ((nat_abs q ≡ 0) ⊎ (negative q ≡ xor (negative z) (negative w))) × (nat_abs q * nat_abs w + nat_abs r ≡ nat_abs z)
-  magnitudes = by (same-signs (xor (negative q) (negative w)) (negative z) (nat_abs q * nat_abs w) (nat_abs r) (nat_abs z) sides)
+  magnitudes = by (same_signs (xor (negative q) (negative w)) (negative z) (nat_abs q * nat_abs w) (nat_abs r) (nat_abs z) sides)
     where
       by : ((xor (negative q) (negative w) ≡ negative z) × (nat_abs q * nat_abs w + nat_abs r ≡ nat_abs z)) ⊎ (nat_abs q * nat_abs w + nat_abs z ≡ nat_abs r)
           → ((nat_abs q ≡ 0) ⊎ (negative q ≡ xor (negative z) (negative w))) × (nat_abs q * nat_abs w + nat_abs r ≡ nat_abs z)
-      by (inl e) = (inr (xor-back (negative q) (negative z) (negative w) e.0), e.1)
+      by (inl e) = (inr (xor_back (negative q) (negative z) (negative w) e.0), e.1)
       by (inr e) =
-          let none = no-multiple (nat_abs q) (nat_abs w) (omega (arith, h.smaller)) in
+          let none = no_multiple (nat_abs q) (nat_abs w) (omega (arith, h.smaller)) in
           let product : nat_abs q * nat_abs w ≡ 0 = ap (λ (x : ℕ). x * nat_abs w) none ∙ omega arith in
           (inl none, omega arith)
 
-  quotient-magnitude : nat_abs z / nat_abs w ≡ nat_abs q
-  quotient-magnitude = ap (λ (x : ℕ). x / nat_abs w) (sym magnitudes.1) ∙ digits_div (nat_abs q) h.smaller
+  quotient_magnitude : nat_abs z / nat_abs w ≡ nat_abs q
+  quotient_magnitude = ap (λ (x : ℕ). x / nat_abs w) (sym magnitudes.1) ∙ digits_div (nat_abs q) h.smaller
 
   -- there is one quotient: that cut towards zero
-  pub quotient-determined : q ≡ quot_z z w
-  quotient-determined = sign-of q ∙ by magnitudes.0 ∙ sym quotient
+  pub quotient_determined : q ≡ quot_z z w
+  quotient_determined = sign_of q ∙ by magnitudes.0 ∙ sym quotient
     where
       quotient : quot_z z w ≡ sign_of (xor (negative z) (negative w)) (nat_abs q)
       quotient =
-          ap₂ quot_z (sign-of z) (sign-of w)
-          ∙ quot-sign (negative z) (negative w) (nat_abs z) (nat_abs w) (omega (arith, h.smaller))
-          ∙ ap (sign_of (xor (negative z) (negative w))) quotient-magnitude
+          ap₂ quot_z (sign_of z) (sign_of w)
+          ∙ quot_sign (negative z) (negative w) (nat_abs z) (nat_abs w) (omega (arith, h.smaller))
+          ∙ ap (sign_of (xor (negative z) (negative w))) quotient_magnitude
 
       by : (nat_abs q ≡ 0) ⊎ (negative q ≡ xor (negative z) (negative w)) → sign_of (negative q) (nat_abs q) ≡ sign_of (xor (negative z) (negative w)) (nat_abs q)
       by (inl e) = ap (sign_of (negative q)) e ∙ zeros (negative q) (xor (negative z) (negative w)) ∙ ap (sign_of (xor (negative z) (negative w))) (sym e)
       by (inr e) = ap (λ (s : Bool). sign_of s (nat_abs q)) e
 
   -- and one remainder
-  pub remainder-determined : r ≡ rem_z z w
-  remainder-determined =
-      with-sign z r h.sign
+  pub remainder_determined : r ≡ rem_z z w
+  remainder_determined =
+      with_sign_lem z r h.sign
       ∙ ap (sign_of (negative z)) (sym (ap (λ (x : ℕ). x % nat_abs w) (sym magnitudes.1) ∙ digits_mod (nat_abs q) h.smaller))
-      ∙ sym (ap₂ rem_z (sign-of z) (sign-of w) ∙ rem-sign (negative z) (negative w) (nat_abs z) (nat_abs w))
+      ∙ sym (ap₂ rem_z (sign_of z) (sign_of w) ∙ rem_sign (negative z) (negative w) (nat_abs z) (nat_abs w))
 
 -- ---- and they are the manual's: the three conditions hold of them
 
@@ -136,12 +136,12 @@ add-sign : (s : Bool) (m k : ℕ) → sign_of s m +ℤ sign_of s k ≡ sign_of s
 add-sign true m k = sym (neg_ℤ-+ℤ (pos m) (pos k))
 add-sign false m k = refl
 
-xor-twice : (s t : Bool) → xor (xor s t) t ≡ s
+xor_twice : (s t : Bool) → xor (xor s t) t ≡ s
 unfolding xor
-xor-twice true true = refl
-xor-twice true false = refl
-xor-twice false true = refl
-xor-twice false false = refl
+xor_twice true true = refl
+xor_twice true false = refl
+xor_twice false true = refl
+xor_twice false false = refl
 
 sign_kept : (s : Bool) (k : ℕ) → (nat_abs (sign_of s k) ≡ 0) ⊎ (negative (sign_of s k) ≡ s)
 sign_kept true zero = inl refl
@@ -149,27 +149,27 @@ sign_kept true (suc k) = inr refl
 sign_kept false k = inr refl
 
 -- of every dividend, by a divisor that is not 0
-pub division-holds : (z w : ℤ) → 0 < nat_abs w → Division z w (quot_z z w) (rem_z z w)
-division-holds z w pos-w = record { whole = whole; smaller = smaller; sign = sign }
+pub division_holds : (z w : ℤ) → 0 < nat_abs w → Division z w (quot_z z w) (rem_z z w)
+division_holds z w pos-w = record { whole = whole; smaller = smaller; sign = sign }
   where
     quotient : quot_z z w ≡ sign_of (xor (negative z) (negative w)) (nat_abs z / nat_abs w)
-    quotient = ap₂ quot_z (sign-of z) (sign-of w) ∙ quot-sign (negative z) (negative w) (nat_abs z) (nat_abs w) pos-w
+    quotient = ap₂ quot_z (sign_of z) (sign_of w) ∙ quot_sign (negative z) (negative w) (nat_abs z) (nat_abs w) pos-w
 
     remainder : rem_z z w ≡ sign_of (negative z) (nat_abs z % nat_abs w)
-    remainder = ap₂ rem_z (sign-of z) (sign-of w) ∙ rem-sign (negative z) (negative w) (nat_abs z) (nat_abs w)
+    remainder = ap₂ rem_z (sign_of z) (sign_of w) ∙ rem_sign (negative z) (negative w) (nat_abs z) (nat_abs w)
 
     whole : quot_z z w *ℤ w +ℤ rem_z z w ≡ z
     whole =
         ap₂ ◌+ℤ◌
-        (ap₂ ◌*ℤ◌ quotient (sign-of w) ∙ mul-sign (xor (negative z) (negative w)) (negative w) (nat_abs z / nat_abs w) (nat_abs w)
-        ∙ ap (λ (s : Bool). sign_of s (nat_abs z / nat_abs w * nat_abs w)) (xor-twice (negative z) (negative w)))
+        (ap₂ ◌*ℤ◌ quotient (sign_of w) ∙ mul-sign (xor (negative z) (negative w)) (negative w) (nat_abs z / nat_abs w) (nat_abs w)
+        ∙ ap (λ (s : Bool). sign_of s (nat_abs z / nat_abs w * nat_abs w)) (xor_twice (negative z) (negative w)))
         remainder
         ∙ add-sign (negative z) (nat_abs z / nat_abs w * nat_abs w) (nat_abs z % nat_abs w)
         ∙ ap (sign_of (negative z)) (div-add-mod' (nat_abs z) (nat_abs w))
-        ∙ sym (sign-of z)
+        ∙ sym (sign_of z)
 
     smaller : nat_abs (rem_z z w) < nat_abs w
-    smaller = subst⁻¹ (λ (k : ℕ). k < nat_abs w) (ap nat_abs remainder ∙ abs-sign (negative z) (nat_abs z % nat_abs w)) (mod-lt (nat_abs z) pos-w)
+    smaller = subst⁻¹ (λ (k : ℕ). k < nat_abs w) (ap nat_abs remainder ∙ abs_sign (negative z) (nat_abs z % nat_abs w)) (mod-lt (nat_abs z) pos-w)
 
     sign : (nat_abs (rem_z z w) ≡ 0) ⊎ (negative (rem_z z w) ≡ negative z)
     sign = subst⁻¹ (λ (r : ℤ). (nat_abs r ≡ 0) ⊎ (negative r ≡ negative z)) remainder (sign_kept (negative z) (nat_abs z % nat_abs w))
@@ -181,19 +181,19 @@ below_next : (k m t : ℕ) → suc m ≡ t → leb k m ≡ ltb k t
 below_next k m t e = same_test (leb k m) (ltb k t) (λ h. lt-ltb k t (omega (arith, leb-true k m h))) (λ h. le-ltb k t (omega (arith, leb-false k m h)))
 
 -- from -m to m are the numbers of a magnitude of at most m
-from-minus : (m : ℕ) (z : ℤ) → le_z (neg_ℤ (pos m)) z && le_z z (pos m) ≡ leb (nat_abs z) m
-from-minus zero (pos k) = rw (le-leb 0 k (omega arith))
-from-minus zero (negsuc k) = sym (lt-leb (suc k) 0 (omega arith))
-from-minus (suc m) (pos k) = refl
-from-minus (suc m) (negsuc k) = and-true (leb k m) ∙ sym (leb-suc-suc k m)
+from_minus : (m : ℕ) (z : ℤ) → le_z (neg_ℤ (pos m)) z && le_z z (pos m) ≡ leb (nat_abs z) m
+from_minus zero (pos k) = rw (le-leb 0 k (omega arith))
+from_minus zero (negsuc k) = sym (lt-leb (suc k) 0 (omega arith))
+from_minus (suc m) (pos k) = refl
+from_minus (suc m) (negsuc k) = and-true (leb k m) ∙ sym (leb-suc-suc k m)
 
 -- a signed quotient is in range exactly if its magnitude is below the top bit
-pub range-signed : (n : ℕ) (z : ℤ) → in_range n true z ≡ ltb (nat_abs z) (top n)
-range-signed n z = from-minus (largestQuotient n true) z ∙ below_next (nat_abs z) (largestQuotient n true) (top n) (omega (arith, pow_pos (n - 1)))
+pub range_signed : (n : ℕ) (z : ℤ) → in_range n true z ≡ ltb (nat_abs z) (top n)
+range_signed n z = from_minus (largest_quotient n true) z ∙ below_next (nat_abs z) (largest_quotient n true) (top n) (omega (arith, pow_pos (n - 1)))
 
 -- an unsigned one exactly if it fits n bits
-pub range-unsigned : (n k : ℕ) → in_range n false (pos k) ≡ ltb k (2 ^ n)
-range-unsigned n k = rw (le-leb 0 k (omega arith)) (below_next k (largestQuotient n false) (2 ^ n) (omega (arith, pow_pos n)))
+pub range_unsigned : (n k : ℕ) → in_range n false (pos k) ≡ ltb k (2 ^ n)
+range_unsigned n k = rw (le-leb 0 k (omega arith)) (below_next k (largest_quotient n false) (2 ^ n) (omega (arith, pow_pos n)))
 
 -- the divisor is above the dividend's upper half exactly if it is not 0 and the quotient fits
 pub quotient_fits : (n d b : ℕ) → ltb (d / 2 ^ n) b ≡ not (eqb b 0) && ltb (d / b) (2 ^ n)
@@ -207,6 +207,6 @@ quotient_fits n d (suc b) = rw (ne_eqb (suc b) 0 (λ e. omega arith)) (by (ltb (
     by false true e f = absurd (omega (arith, quotient-below d (2 ^ n) (suc b) (omega arith) (ltb-true _ _ f), ltb-false (d / 2 ^ n) (suc b) e))
 
 -- a divide is accepted exactly if the divisor is not 0 and the quotient is in range, signed or not
-pub manual-accepts : (n : ℕ) (s : Bool) (d b : ℕ) → accepts n s d b ≡ not (eqb b 0) && in_range n s (quotient_of n s d b)
-manual-accepts n true d b = ap (λ (x : Bool). not (eqb b 0) && x) (sym (range-signed n (quotient_of n true d b)))
-manual-accepts n false d b = quotient_fits n d b ∙ ap (λ (x : Bool). not (eqb b 0) && x) (sym (range-unsigned n (d / b)))
+pub manual_accepts : (n : ℕ) (s : Bool) (d b : ℕ) → accepts n s d b ≡ not (eqb b 0) && in_range n s (quotient_of n s d b)
+manual_accepts n true d b = ap (λ (x : Bool). not (eqb b 0) && x) (sym (range_signed n (quotient_of n true d b)))
+manual_accepts n false d b = quotient_fits n d b ∙ ap (λ (x : Bool). not (eqb b 0) && x) (sym (range_unsigned n (d / b)))

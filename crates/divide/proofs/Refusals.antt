@@ -9,75 +9,75 @@ use lib.{Dec.ltb, Dec.eqb, IntN.ℤ, IntN.nat_abs}
 use borrow.Author.Tests.{ne_eqb, not-true}
 use Rattle.numbers.specs.Numbers.{top, valued}
 use Rattle.flags.specs.declared.word.Flags.{Flags}
-use Rattle.cord.specs.Cord.{noRoads}
-use Rattle.divide.specs.Divide.{Divided, accepted, refused, accepts, tooWide, signRange, applies, refusalOf, quotient_of, atFirst, refusedSteps, refusedFlags, resultsOf, divide}
+use Rattle.cord.specs.Cord.{no_roads}
+use Rattle.divide.specs.Divide.{Divided, accepted, refused, accepts, too_wide, sign_range, applies, refusal_of, quotient_of, at_first, refused_steps, refused_flags, results_of, divide}
 use Rattle.divide.specs.{Manual.Division, Manual.is_refused, declared.div.Refusal.Refusal}
 use Rattle.divide.specs.declared.div.Refusal.TheVariants.{ZeroDivisor, TooWide, SignRange}
-use Rattle.divide.proofs.Borders.{true-wide, wide-true, true-range, range-true, wide-or-range, wide-unfit}
-use Rattle.divide.proofs.{DivLaws.compared-first, DivLaws.refused-is, DivLaws.known, Manual.quotient_fits, Answers.not-by-zero, Answers.quotient_is}
+use Rattle.divide.proofs.Borders.{true_wide, wide_true, true_range, range_true, wide_or_range, wide_unfit}
+use Rattle.divide.proofs.{DivLaws.compared_first, DivLaws.refused_is, DivLaws.known, Manual.quotient_fits, Answers.not_by_zero, Answers.quotient_is}
 
 -- the first compare refuses for the first two reasons, and for no other
-pub first_two : (n : ℕ) (s : Bool) (d b : ℕ) → 0 < n → d < 2 ^ (n + n) → b < 2 ^ n → atFirst n s d b ≡ applies ZeroDivisor n s d b || applies TooWide n s d b
-first_two n s d b hn hd hb = compared-first n s d b (known n s d b hn hd hb)
+pub first_two : (n : ℕ) (s : Bool) (d b : ℕ) → 0 < n → d < 2 ^ (n + n) → b < 2 ^ n → at_first n s d b ≡ applies ZeroDivisor n s d b || applies TooWide n s d b
+first_two n s d b hn hd hb = compared_first n s d b (known n s d b hn hd hb)
 
-not-zero : (b : ℕ) → eqb b 0 ≡ true → not (eqb b 0) ≡ true → ⊥
-not-zero b e f = true≢false (sym e ∙ not-true (eqb b 0) f)
+not_zero_lem : (b : ℕ) → eqb b 0 ≡ true → not (eqb b 0) ≡ true → ⊥
+not_zero_lem b e f = true≢false (sym e ∙ not-true (eqb b 0) f)
 
 module _ (n : ℕ) (s : Bool) (d b : ℕ) where
   -- the quotient's magnitude
   abbrev far : ℕ
   far = nat_abs (quotient_of n s d b)
 
-  wide_is : applies TooWide n s d b ≡ true → (not (eqb b 0) ≡ true) × (tooWide n far ≡ true)
-  wide_is = (and-eq-true_iff (not (eqb b 0)) (tooWide n far)).0
+  wide_is : applies TooWide n s d b ≡ true → (not (eqb b 0) ≡ true) × (too_wide n far ≡ true)
+  wide_is = (and-eq-true_iff (not (eqb b 0)) (too_wide n far)).0
 
-  range-is : applies SignRange n s d b ≡ true → (s ≡ true) × (not (eqb b 0) ≡ true) × (signRange n far ≡ true)
-  range-is e =
-      let h = (and-eq-true_iff (s && not (eqb b 0)) (signRange n far)).0 e in
+  range_is : applies SignRange n s d b ≡ true → (s ≡ true) × (not (eqb b 0) ≡ true) × (sign_range n far ≡ true)
+  range_is e =
+      let h = (and-eq-true_iff (s && not (eqb b 0)) (sign_range n far)).0 e in
       let g = (and-eq-true_iff s (not (eqb b 0))).0 h.0 in
       (g.0, g.1, h.1)
 
-  apart : tooWide n far ≡ true → signRange n far ≡ true → ⊥
-  apart wide range = omega (arith, wide-true n far wide, (range-true n far range).1)
+  apart : too_wide n far ≡ true → sign_range n far ≡ true → ⊥
+  apart wide range = omega (arith, wide_true n far wide, (range_true n far range).1)
 
   -- two reasons do not apply at once
-  pub one-alone : (v w : Refusal) → applies v n s d b ≡ true → applies w n s d b ≡ true → v ≡ w
-  one-alone ZeroDivisor ZeroDivisor e f = refl
-  one-alone ZeroDivisor TooWide e f = absurd (not-zero b e (wide_is f).0)
-  one-alone ZeroDivisor SignRange e f = absurd (not-zero b e (range-is f).1)
-  one-alone TooWide ZeroDivisor e f = absurd (not-zero b f (wide_is e).0)
-  one-alone TooWide TooWide e f = refl
-  one-alone TooWide SignRange e f = absurd (apart (wide_is e).1 (range-is f).2)
-  one-alone SignRange ZeroDivisor e f = absurd (not-zero b f (range-is e).1)
-  one-alone SignRange TooWide e f = absurd (apart (wide_is f).1 (range-is e).2)
-  one-alone SignRange SignRange e f = refl
+  pub one_alone : (v w : Refusal) → applies v n s d b ≡ true → applies w n s d b ≡ true → v ≡ w
+  one_alone ZeroDivisor ZeroDivisor e f = refl
+  one_alone ZeroDivisor TooWide e f = absurd (not_zero_lem b e (wide_is f).0)
+  one_alone ZeroDivisor SignRange e f = absurd (not_zero_lem b e (range_is f).1)
+  one_alone TooWide ZeroDivisor e f = absurd (not_zero_lem b f (wide_is e).0)
+  one_alone TooWide TooWide e f = refl
+  one_alone TooWide SignRange e f = absurd (apart (wide_is e).1 (range_is f).2)
+  one_alone SignRange ZeroDivisor e f = absurd (not_zero_lem b f (range_is e).1)
+  one_alone SignRange TooWide e f = absurd (apart (wide_is f).1 (range_is e).2)
+  one_alone SignRange SignRange e f = refl
 
 -- a divide is refused, exactly as before there were three reasons, where one of them applies
-pub three-cover : (n : ℕ) (s : Bool) (d b : ℕ) → 0 < n → not (accepts n s d b) ≡ applies ZeroDivisor n s d b || applies TooWide n s d b || applies SignRange n s d b
-three-cover n true d b hn = by (eqb b 0)
+pub three_cover : (n : ℕ) (s : Bool) (d b : ℕ) → 0 < n → not (accepts n s d b) ≡ applies ZeroDivisor n s d b || applies TooWide n s d b || applies SignRange n s d b
+three_cover n true d b hn = by (eqb b 0)
   where
     q : ℕ
     q = nat_abs (quotient_of n true d b)
 
-    by : (z : Bool) → not (not z && ltb q (top n)) ≡ z || not z && tooWide n q || true && not z && signRange n q
+    by : (z : Bool) → not (not z && ltb q (top n)) ≡ z || not z && too_wide n q || true && not z && sign_range n q
     by true = refl
-    by false = wide-or-range n q hn
-three-cover n false d b hn = ap not (quotient_fits n d b) ∙ by (eqb b 0) (ltb (d / b) (2 ^ n)) ∙ ap (λ (x : Bool). eqb b 0 || not (eqb b 0) && x || false) (wide-unfit n (d / b))
+    by false = wide_or_range n q hn
+three_cover n false d b hn = ap not (quotient_fits n d b) ∙ by (eqb b 0) (ltb (d / b) (2 ^ n)) ∙ ap (λ (x : Bool). eqb b 0 || not (eqb b 0) && x || false) (wide_unfit n (d / b))
   where
     by : (z x : Bool) → not (not z && x) ≡ z || not z && not x || false
     by true x = refl
     by false true = refl
     by false false = refl
 
-accepted-outcome : (n : ℕ) (s rep : Bool) (d b : ℕ) (f : Flags) → accepts n s d b ≡ true → (divide n s rep d b f).outcome ≡ accepted (resultsOf n s rep d b)
+accepted_outcome : (n : ℕ) (s rep : Bool) (d b : ℕ) (f : Flags) → accepts n s d b ≡ true → (divide n s rep d b f).outcome ≡ accepted (results_of n s rep d b)
 unfolding divide
-accepted-outcome n s rep d b f e = rw e
+accepted_outcome n s rep d b f e = rw e
 
 module _ (n : ℕ) (s : Bool) (d b : ℕ) (hn : 0 < n) where
   -- what is told of a refused divide applies to it
-  told-applies : accepts n s d b ≡ false → applies (refusalOf n s d b) n s d b ≡ true
-  unfolding refusalOf
-  told-applies e = by (applies ZeroDivisor n s d b) (applies TooWide n s d b) refl refl (sym (three-cover n s d b hn) ∙ ap not e)
+  told-applies : accepts n s d b ≡ false → applies (refusal_of n s d b) n s d b ≡ true
+  unfolding refusal_of
+  told-applies e = by (applies ZeroDivisor n s d b) (applies TooWide n s d b) refl refl (sym (three_cover n s d b hn) ∙ ap not e)
     where
       by : (z w : Bool) → applies ZeroDivisor n s d b ≡ z → applies TooWide n s d b ≡ w → z || w || applies SignRange n s d b ≡ true
           → applies (cond z ZeroDivisor (cond w TooWide SignRange)) n s d b ≡ true
@@ -86,8 +86,8 @@ module _ (n : ℕ) (s : Bool) (d b : ℕ) (hn : 0 < n) where
       by false false ez ew h = h
 
   -- to none that is accepted does a reason apply
-  not-accepted : (why : Refusal) → applies why n s d b ≡ true → accepts n s d b ≡ false
-  not-accepted why e = not-true (accepts n s d b) (three-cover n s d b hn ∙ one why e)
+  not_accepted : (why : Refusal) → applies why n s d b ≡ true → accepts n s d b ≡ false
+  not_accepted why e = not-true (accepts n s d b) (three_cover n s d b hn ∙ one why e)
     where
       second : (z w r : Bool) → w ≡ true → z || w || r ≡ true
       second true w r e = refl
@@ -106,20 +106,20 @@ module _ (n : ℕ) (s : Bool) (d b : ℕ) (hn : 0 < n) where
 
   -- the order in which the three are tested cannot be seen
   pub any_order : (u v w : Refusal) → ((why : Refusal) → (why ≡ u) ⊎ (why ≡ v) ⊎ (why ≡ w)) → accepts n s d b ≡ false
-      → cond (applies u n s d b) u (cond (applies v n s d b) v w) ≡ refusalOf n s d b
-  any_order u v w all e = by (applies u n s d b) (applies v n s d b) refl refl (all (refusalOf n s d b))
+      → cond (applies u n s d b) u (cond (applies v n s d b) v w) ≡ refusal_of n s d b
+  any_order u v w all e = by (applies u n s d b) (applies v n s d b) refl refl (all (refusal_of n s d b))
     where
-      told : applies (refusalOf n s d b) n s d b ≡ true
+      told : applies (refusal_of n s d b) n s d b ≡ true
       told = told-applies e
 
       -- what is told is none that does not apply
-      none : {v : Refusal} → refusalOf n s d b ≡ v → applies v n s d b ≡ false → ⊥
+      none : {v : Refusal} → refusal_of n s d b ≡ v → applies v n s d b ≡ false → ⊥
       none p f = true≢false (sym told ∙ ap (λ (x : Refusal). applies x n s d b) p ∙ f)
 
-      by : (x y : Bool) → applies u n s d b ≡ x → applies v n s d b ≡ y → (refusalOf n s d b ≡ u) ⊎ (refusalOf n s d b ≡ v) ⊎ (refusalOf n s d b ≡ w)
-          → cond x u (cond y v w) ≡ refusalOf n s d b
-      by true y ex ey h = one-alone n s d b u (refusalOf n s d b) ex told
-      by false true ex ey h = one-alone n s d b v (refusalOf n s d b) ey told
+      by : (x y : Bool) → applies u n s d b ≡ x → applies v n s d b ≡ y → (refusal_of n s d b ≡ u) ⊎ (refusal_of n s d b ≡ v) ⊎ (refusal_of n s d b ≡ w)
+          → cond x u (cond y v w) ≡ refusal_of n s d b
+      by true y ex ey h = one_alone n s d b u (refusal_of n s d b) ex told
+      by false true ex ey h = one_alone n s d b v (refusal_of n s d b) ey told
       by false false ex ey (inl p) = absurd (none p ex)
       by false false ex ey (inr (inl p)) = absurd (none p ey)
       by false false ex ey (inr (inr p)) = sym p
@@ -127,68 +127,68 @@ module _ (n : ℕ) (s : Bool) (d b : ℕ) (hn : 0 < n) where
   module _ (f : Flags) (rep : Bool) where
     -- the whole answer where a reason applies
     pub refused-whole : (why : Refusal) → applies why n s d b ≡ true
-        → divide n s rep d b f ≡ record { outcome = refused why; flags = refusedFlags n s d b f; roads = noRoads; steps = refusedSteps n s d b }
+        → divide n s rep d b f ≡ record { outcome = refused why; flags = refused_flags n s d b f; roads = no_roads; steps = refused_steps n s d b }
     refused-whole why e =
-        let no = not-accepted why e in
-        sym (refused-is n s d b rep f no (one-alone n s d b why (refusalOf n s d b) e (told-applies no)) refl refl)
+        let no = not_accepted why e in
+        sym (refused_is n s d b rep f no (one_alone n s d b why (refusal_of n s d b) e (told-applies no)) refl refl)
 
     -- the outcome, reason by reason in their order
-    pub by-reason : (divide n s rep d b f).outcome
+    pub by_reason : (divide n s rep d b f).outcome
         ≡ cond (applies ZeroDivisor n s d b) (refused ZeroDivisor)
-        (cond (applies TooWide n s d b) (refused TooWide) (cond (applies SignRange n s d b) (refused SignRange) (accepted (resultsOf n s rep d b))))
-    by-reason =
-        by (applies ZeroDivisor n s d b) (applies TooWide n s d b) (applies SignRange n s d b) (accepts n s d b) refl refl refl refl (three-cover n s d b hn)
+        (cond (applies TooWide n s d b) (refused TooWide) (cond (applies SignRange n s d b) (refused SignRange) (accepted (results_of n s rep d b))))
+    by_reason =
+        by (applies ZeroDivisor n s d b) (applies TooWide n s d b) (applies SignRange n s d b) (accepts n s d b) refl refl refl refl (three_cover n s d b hn)
       where
         outcome : (why : Refusal) → applies why n s d b ≡ true → (divide n s rep d b f).outcome ≡ refused why
         outcome why e = ap (λ (a : Divided). a.outcome) (refused-whole why e)
 
         by : (z w r c : Bool) → applies ZeroDivisor n s d b ≡ z → applies TooWide n s d b ≡ w → applies SignRange n s d b ≡ r → accepts n s d b ≡ c → not c ≡ z || w || r
-            → (divide n s rep d b f).outcome ≡ cond z (refused ZeroDivisor) (cond w (refused TooWide) (cond r (refused SignRange) (accepted (resultsOf n s rep d b))))
+            → (divide n s rep d b f).outcome ≡ cond z (refused ZeroDivisor) (cond w (refused TooWide) (cond r (refused SignRange) (accepted (results_of n s rep d b))))
         by true w r c ez ew er ec h = outcome ZeroDivisor ez
         by false true r c ez ew er ec h = outcome TooWide ew
         by false false true c ez ew er ec h = outcome SignRange er
-        by false false false true ez ew er ec h = accepted-outcome n s rep d b f ec
+        by false false false true ez ew er ec h = accepted_outcome n s rep d b f ec
         by false false false false ez ew er ec h = absurd (true≢false h)
 
     -- refused for a reason exactly if it applies, whatever the flags, REP or not
-    pub refused-for : (why : Refusal) → (divide n s rep d b f).outcome ≡ refused why ↔ applies why n s d b ≡ true
-    refused-for why = (to (accepts n s d b) refl, λ e. ap (λ (a : Divided). a.outcome) (refused-whole why e))
+    pub refused_for_lem : (why : Refusal) → (divide n s rep d b f).outcome ≡ refused why ↔ applies why n s d b ≡ true
+    refused_for_lem why = (to (accepts n s d b) refl, λ e. ap (λ (a : Divided). a.outcome) (refused-whole why e))
       where
         to : (c : Bool) → accepts n s d b ≡ c → (divide n s rep d b f).outcome ≡ refused why → applies why n s d b ≡ true
-        to true e h = absurd (false≢true (ap is_refused (sym (accepted-outcome n s rep d b f e) ∙ h)))
+        to true e h = absurd (false≢true (ap is_refused (sym (accepted_outcome n s rep d b f e) ∙ h)))
         to false e h =
             let told = told-applies e in
-            let both : refused (refusalOf n s d b) ≡ refused why = sym (ap (λ (a : Divided). a.outcome) (refused-whole (refusalOf n s d b) told)) ∙ h in
-            let same : refusalOf n s d b ≡ why = cc in
+            let both : refused (refusal_of n s d b) ≡ refused why = sym (ap (λ (a : Divided). a.outcome) (refused-whole (refusal_of n s d b) told)) ∙ h in
+            let same : refusal_of n s d b ≡ why = cc in
             subst (λ (w : Refusal). applies w n s d b ≡ true) same told
 
 -- REP changes nothing of a refusal
-pub rep-refuses-alike : (n : ℕ) (s : Bool) (d b : ℕ) → 0 < n → (f : Flags) (rep other : Bool) (why : Refusal)
+pub rep_refuses_alike : (n : ℕ) (s : Bool) (d b : ℕ) → 0 < n → (f : Flags) (rep other : Bool) (why : Refusal)
     → (divide n s rep d b f).outcome ≡ refused why → divide n s other d b f ≡ divide n s rep d b f
-rep-refuses-alike n s d b hn f rep other why h =
-    let e = (refused-for n s d b hn f rep why).0 h in
+rep_refuses_alike n s d b hn f rep other why h =
+    let e = (refused_for_lem n s d b hn f rep why).0 h in
     refused-whole n s d b hn f other why e ∙ sym (refused-whole n s d b hn f rep why e)
 
 -- an unsigned divide is never refused for sign range
-pub never-unsigned : (n d b : ℕ) → 0 < n → (f : Flags) (rep : Bool) → (divide n false rep d b f).outcome ≡ refused SignRange → ⊥
-never-unsigned n d b hn f rep h = false≢true ((refused-for n false d b hn f rep SignRange).0 h)
+pub never_unsigned : (n d b : ℕ) → 0 < n → (f : Flags) (rep : Bool) → (divide n false rep d b f).outcome ≡ refused SignRange → ⊥
+never_unsigned n d b hn f rep h = false≢true ((refused_for_lem n false d b hn f rep SignRange).0 h)
 
 -- in the manual's own words: where there is a division, the quotient's magnitude tells why it is refused
 module _ (n : ℕ) (s : Bool) (d b : ℕ) (hn : 0 < n) (f : Flags) (rep : Bool) {q r : ℤ} (h : Division (valued s (n + n) d) (valued s n b) q r) where
   there : eqb b 0 ≡ false
-  there = ne_eqb b 0 (not-by-zero n s d b h)
+  there = ne_eqb b 0 (not_by_zero n s d b h)
 
-  far-is : nat_abs (quotient_of n s d b) ≡ nat_abs q
-  far-is = ap nat_abs (quotient_is n s d b h)
+  far_is : nat_abs (quotient_of n s d b) ≡ nat_abs q
+  far_is = ap nat_abs (quotient_is n s d b h)
 
-  pub division-too-wide : (divide n s rep d b f).outcome ≡ refused TooWide ↔ 2 ^ n ≤ nat_abs q
-  division-too-wide =
-      let told = refused-for n s d b hn f rep TooWide in
-      (λ e. omega (arith, far-is, wide-true n _ (wide_is n s d b (told.0 e)).1), λ l. told.1 (rw (there, far-is, true-wide n (nat_abs q) l)))
+  pub division_too_wide : (divide n s rep d b f).outcome ≡ refused TooWide ↔ 2 ^ n ≤ nat_abs q
+  division_too_wide =
+      let told = refused_for_lem n s d b hn f rep TooWide in
+      (λ e. omega (arith, far_is, wide_true n _ (wide_is n s d b (told.0 e)).1), λ l. told.1 (rw (there, far_is, true_wide n (nat_abs q) l)))
 
-  pub division-sign-range : (divide n s rep d b f).outcome ≡ refused SignRange ↔ (s ≡ true) × (top n ≤ nat_abs q) × (nat_abs q < 2 ^ n)
-  division-sign-range =
-      let told = refused-for n s d b hn f rep SignRange in (
-        λ e. let range = range-is n s d b (told.0 e) in let ends = range-true n (nat_abs (quotient_of n s d b)) range.2 in (range.0, omega (arith, far-is, ends.0), omega (arith, far-is, ends.1)),
-        λ k. told.1 (rw (far-is, there, k.0, true-range n (nat_abs q) k.1 k.2)),
+  pub division_sign_range : (divide n s rep d b f).outcome ≡ refused SignRange ↔ (s ≡ true) × (top n ≤ nat_abs q) × (nat_abs q < 2 ^ n)
+  division_sign_range =
+      let told = refused_for_lem n s d b hn f rep SignRange in (
+        λ e. let range = range_is n s d b (told.0 e) in let ends = range_true n (nat_abs (quotient_of n s d b)) range.2 in (range.0, omega (arith, far_is, ends.0), omega (arith, far_is, ends.1)),
+        λ k. told.1 (rw (far_is, there, k.0, true_range n (nat_abs q) k.1 k.2)),
       )

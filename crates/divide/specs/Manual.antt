@@ -22,18 +22,18 @@ pub record Division (z w q r : ℤ) : Type 0 where
   pub sign : (nat_abs r ≡ 0) ⊎ (negative r ≡ negative z)
 
 -- the largest quotient of DIV, and of IDIV
-abbrev pub largestQuotient : ℕ → Bool → ℕ
-largestQuotient n false = 2 ^ n - 1
-largestQuotient n true = 2 ^ (n - 1) - 1
+abbrev pub largest_quotient : ℕ → Bool → ℕ
+largest_quotient n false = 2 ^ n - 1
+largest_quotient n true = 2 ^ (n - 1) - 1
 
 -- and the least
-abbrev pub leastQuotient : ℕ → Bool → ℤ
-leastQuotient n false = pos 0
-leastQuotient n true = neg_ℤ (pos (largestQuotient n true))
+abbrev pub least_quotient : ℕ → Bool → ℤ
+least_quotient n false = pos 0
+least_quotient n true = neg_ℤ (pos (largest_quotient n true))
 
 -- a quotient from the least to the largest
 abbrev pub in_range : ℕ → Bool → ℤ → Bool
-in_range n s q = le_z (leastQuotient n s) q && le_z q (pos (largestQuotient n s))
+in_range n s q = le_z (least_quotient n s) q && le_z q (pos (largest_quotient n s))
 
 -- where the chip makes the interrupt, a divide here answers a refusal
 abbrev pub is_refused : DivideOutcome → Bool

@@ -2,11 +2,11 @@
 // of one compare, accepted or refused.
 ghost use Rattle.std.specs.Prelude.{◌≡◌, true, false};
 ghost use Rattle.flags.specs.Parity.{ParityTable};
-ghost use Rattle.cord.specs.Cord.{bothRoads};
+ghost use Rattle.cord.specs.Cord.{both_roads};
 ghost use Rattle.divide.specs.Flags.{compare_flags};
 ghost use Rattle.divide.specs.Divide.{divide};
-ghost use Rattle.divide.specs.Finish.{firstRefusal, finished};
-ghost use Rattle.idiv.specs.Views.{post8Answer, post16Answer};
+ghost use Rattle.divide.specs.Finish.{first_refusal, finished};
+ghost use Rattle.idiv.specs.Views.{post8_answer, post16_answer};
 ghost use Rattle.divide.specs.Views.{divided8, divided16};
 
 use alu::subtraction;
@@ -27,7 +27,7 @@ pub enum Refusal {
 
 // CORD's first compare refuses for either of two reasons, and the divisor tells which.
 fn first_refusal(divisor: u16) -> Refusal
-    ensures { result ≡ firstRefusal divisor }
+    ensures { result ≡ first_refusal divisor }
 {
     if divisor == 0 {
         Refusal::ZeroDivisor
@@ -92,7 +92,7 @@ fn unsigned_div8(dividend: u16, divisor: u8, flags: Flags, table: &[u8; 256]) ->
 // What POSTIDIV's answer makes of the divide. Only where it is accepted are C and O cleared, and the ones
 // passed on.
 fn finish8(post: PostIdiv8, compare: Flags, shifted_out: u16, no_borrow: u16) -> Divided8
-    ensures { divided8 result ≡ finished (post8Answer post) compare (bothRoads shifted_out no_borrow) }
+    ensures { divided8 result ≡ finished (post8_answer post) compare (both_roads shifted_out no_borrow) }
 {
     match post {
         PostIdiv8::Accepted {
@@ -231,7 +231,7 @@ fn unsigned_div16(dividend: u32, divisor: u16, flags: Flags, table: &[u8; 256]) 
 // What POSTIDIV's answer makes of the divide. Only where it is accepted are C and O cleared, and the ones
 // passed on.
 fn finish16(post: PostIdiv16, compare: Flags, shifted_out: u16, no_borrow: u16) -> Divided16
-    ensures { divided16 result ≡ finished (post16Answer post) compare (bothRoads shifted_out no_borrow) }
+    ensures { divided16 result ≡ finished (post16_answer post) compare (both_roads shifted_out no_borrow) }
 {
     match post {
         PostIdiv16::Accepted {

@@ -4,16 +4,16 @@
 // of a caller but that each pointer leads to as many bytes as it says, and that what is written overlaps nothing
 // else that is lent.
 ghost use Rattle.std.specs.Prelude.{◌≡◌, ◌/◌, length};
-ghost use Rattle.line.specs.One.{statusIn, answered};
+ghost use Rattle.line.specs.One.{status_in, answered};
 ghost use Rattle.line.specs.Run.{done, run_of};
-ghost use Rattle.answer.specs.Asked.{statusOf, parts_of};
-ghost use Rattle.trap.specs.Told.{trapTold, wouldTrap};
-ghost use Rattle.roads.specs.Told.{tallied, roadsTold};
-ghost use Rattle.registers.specs.Over.{over, registersOf, settledAs};
+ghost use Rattle.answer.specs.Asked.{status_of, parts_of};
+ghost use Rattle.trap.specs.Told.{trap_told, would_trap};
+ghost use Rattle.roads.specs.Told.{tallied, roads_told};
+ghost use Rattle.registers.specs.Over.{over, registers_of, settled_as};
 ghost use Rattle.packed.specs.Sum.{plus, minus};
-ghost use Rattle.packed.specs.Told.{told, toldBy};
-ghost use Rattle.readback.specs.Judge.{readBack};
-ghost use Rattle.readback.specs.Told.{statusOf as readStatus, recordLeft, turn, turnAt};
+ghost use Rattle.packed.specs.Told.{told, told_by};
+ghost use Rattle.readback.specs.Judge.{read_back};
+ghost use Rattle.readback.specs.Told.{status_of as readStatus, record_left, turn, turn_at};
 
 use answer::ask;
 use flags::parity;
@@ -31,7 +31,7 @@ pub extern "C" fn hatchyarn_ask(
     y: u16,
     answer: &mut [u16; 4],
 ) -> u8
-    ensures { (result ≡ statusOf op mode flags x y) × (answer.new ≡ parts_of op mode flags x y) }
+    ensures { (result ≡ status_of op mode flags x y) × (answer.new ≡ parts_of op mode flags x y) }
 {
     let parity = parity::parity_table();
     ask::ask_into(op, mode, flags, x, y, &parity, answer)
@@ -41,7 +41,7 @@ pub extern "C" fn hatchyarn_ask(
 // cannot be asked returns 4 or 5, and `trap` becomes 1.
 #[unsafe(no_mangle)]
 pub extern "C" fn hatchyarn_would_trap(mode: u8, dividend: u32, divisor: u16, trap: &mut u8) -> u8
-    ensures { trapTold result trap.new ≡ wouldTrap mode dividend divisor }
+    ensures { trap_told result trap.new ≡ would_trap mode dividend divisor }
 {
     trap::would_trap(mode, dividend, divisor, trap)
 }
@@ -50,7 +50,7 @@ pub extern "C" fn hatchyarn_would_trap(mode: u8, dividend: u32, divisor: u16, tr
 // borrow, go into `roads`. Both are 0 unless the status returned is 0.
 #[unsafe(no_mangle)]
 pub extern "C" fn hatchyarn_roads(mode: u8, dividend: u32, divisor: u16, roads: &mut [u16; 2]) -> u8
-    ensures { tallied result roads.new ≡ roadsTold mode dividend divisor }
+    ensures { tallied result roads.new ≡ roads_told mode dividend divisor }
 {
     roads::roads(mode, dividend, divisor, roads)
 }
@@ -69,7 +69,7 @@ pub extern "C" fn hatchyarn_registers(
     total: &mut u32,
     steps: &mut u16,
 ) -> u8
-    ensures { settledAs result steps.new (registersOf ax.new dx.new flags.new total.new) ≡ over op mode y (registersOf ax.old dx.old flags.old total.old) }
+    ensures { settled_as result steps.new (registers_of ax.new dx.new flags.new total.new) ≡ over op mode y (registers_of ax.old dx.old flags.old total.old) }
 {
     by_number::operate(op, mode, y, ax, dx, flags, total, steps)
 }
@@ -77,7 +77,7 @@ pub extern "C" fn hatchyarn_registers(
 // One line without its line feed: the whole table.
 #[unsafe(no_mangle)]
 pub extern "C" fn hatchyarn_line(line: &[u8], out: &mut [u8]) -> u8
-    ensures { (result ≡ statusIn (length out.old) line.now) × (out.new ≡ answered line.now out.old) }
+    ensures { (result ≡ status_in (length out.old) line.now) × (out.new ≡ answered line.now out.old) }
 {
     one::answer_line(line, out)
 }
@@ -108,7 +108,7 @@ pub extern "C" fn hatchyarn_packed_add(
     out: &mut [u8],
     carry_out: &mut u8,
 ) -> u8
-    ensures { told result out.new carry_out.new ≡ toldBy plus x.now y.now carry out.old carry_out.old }
+    ensures { told result out.new carry_out.new ≡ told_by plus x.now y.now carry out.old carry_out.old }
 {
     told::tell(string::add(x, y, carry, out), carry_out)
 }
@@ -122,7 +122,7 @@ pub extern "C" fn hatchyarn_packed_subtract(
     out: &mut [u8],
     borrow_out: &mut u8,
 ) -> u8
-    ensures { told result out.new borrow_out.new ≡ toldBy minus x.now y.now borrow out.old borrow_out.old }
+    ensures { told result out.new borrow_out.new ≡ told_by minus x.now y.now borrow out.old borrow_out.old }
 {
     told::tell(string::subtract(x, y, borrow, out), borrow_out)
 }
@@ -131,7 +131,7 @@ pub extern "C" fn hatchyarn_packed_subtract(
 // writes nothing.
 #[unsafe(no_mangle)]
 pub extern "C" fn hatchyarn_read_answer(line: &[u8], record: &mut [u16; 5]) -> u8
-    ensures { (result ≡ readStatus (readBack line.now)) × («record».new ≡ recordLeft (readBack line.now) «record».old) }
+    ensures { (result ≡ readStatus (read_back line.now)) × («record».new ≡ record_left (read_back line.now) «record».old) }
 {
     readback::told::tell(readback::one::read_answer(line), record)
 }
@@ -145,7 +145,7 @@ pub extern "C" fn hatchyarn_next_answer(
     record: &mut [u16; 5],
     start: &mut usize,
 ) -> u8
-    ensures { turn result place.new «record».new start.new ≡ turnAt text.now place.old «record».old start.old }
+    ensures { turn result place.new «record».new start.new ≡ turn_at text.now place.old «record».old start.old }
 {
     readback::told::tell_next(
         readback::reader::next_at(text, *place),

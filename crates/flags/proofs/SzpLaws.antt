@@ -4,13 +4,13 @@ use Prim.Native.Nat.{ℕ, ◌%◌, ◌^◌, ◌<◌}
 use native.Mathlib.Nat.{mod-mod}
 use lib.{Dec.eqb, Bits.bit_and, Count.ones}
 use Rattle.numbers.specs.Numbers.{top}
-use Rattle.flags.specs.{Parity.evenOnes, Szp.szp, declared.word.Flags.Flags}
-use Rattle.numbers.proofs.Masks.{mask-top}
+use Rattle.flags.specs.{Parity.even_ones, Szp.szp, declared.word.Flags.Flags}
+use Rattle.numbers.proofs.Masks.{mask_top}
 
 -- P asks of a number no more than its low eight bits
-pub even-low : (x : ℕ) → evenOnes (x % 256) ≡ evenOnes x
-unfolding evenOnes
-even-low x = ap (λ (y : ℕ). eqb (ones y % 2) 0) (mod-mod x 256)
+pub even_low : (x : ℕ) → even_ones (x % 256) ≡ even_ones x
+unfolding even_ones
+even_low x = ap (λ (y : ℕ). eqb (ones y % 2) 0) (mod-mod x 256)
 
 abbrev pub tested : ℕ → ℕ → Bool → Flags → Flags
 tested n x p f =
@@ -23,10 +23,10 @@ tested n x p f =
       overflow = f.overflow;
     }
 
-pub szp-by : (n x : ℕ) (f : Flags) → 0 < n → x < 2 ^ n → {p : Bool} → p ≡ evenOnes x → tested n x p f ≡ szp n x f
+pub szp_by : (n x : ℕ) (f : Flags) → 0 < n → x < 2 ^ n → {p : Bool} → p ≡ even_ones x → tested n x p f ≡ szp n x f
 unfolding szp
-szp-by n x f hn hx {p} e =
-    let s = mask-top n x hn hx in
+szp_by n x f hn hx {p} e =
+    let s = mask_top n x hn hx in
     λ i. record {
       carry = f.carry;
       parity = e i;

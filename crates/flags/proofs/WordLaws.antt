@@ -6,8 +6,8 @@ use native.Mathlib.{Nat.mod-lt, Nat.mod-eq_of_lt, Omega.arith}
 use lib.{Bits.bit_and, Bits.bit_or, Bits.or_shifted, Bits.and_mask, Bits.and_shr, Bits.and_mod, Bits.and_zero_r, Bits.and_le_r, Dec.eqb, Dec.lit<}
 use borrow.Author.Tests.{eq-eqb}
 use Rattle.numbers.specs.Numbers.{bit, is_set}
-use Rattle.flags.specs.{Word.word_of, Word.flags_of, Word.isFlags, declared.word.Flags.Flags}
-use Rattle.numbers.proofs.{Masks.digit_and, BitLaws.bit_le, BitLaws.flag-of, BitLaws.bit-isSet}
+use Rattle.flags.specs.{Word.word_of, Word.flags_of, Word.is_flags, declared.word.Flags.Flags}
+use Rattle.numbers.proofs.{Masks.digit_and, BitLaws.bit_le, BitLaws.flag_of, BitLaws.bit-is_set}
 
 -- a word with no bit set but those six, all together 08D5
 pub record Within (w : ℕ) : Type 0 where
@@ -32,20 +32,20 @@ module _ (f : Flags) where
   unfolding word_of
   six P h = h _ _ _ _ _ _ _ (bit_le f.carry) (bit_le f.parity) (bit_le f.aux_carry) (bit_le f.zero) (bit_le f.sign) (bit_le f.overflow) refl
 
-  pub together-within : Within (word_of f)
-  together-within = six (λ c p a z s o w. Within w) between
+  pub together_within : Within (word_of f)
+  together_within = six (λ c p a z s o w. Within w) between
 
-  pub apart-together : flags_of (word_of f) ≡ f
+  pub apart_together : flags_of (word_of f) ≡ f
   unfolding flags_of
-  apart-together =
+  apart_together =
       let at = six (λ c p a z s o w. (w / 2 ^ 0 % 2 ≡ c) × (w / 2 ^ 2 % 2 ≡ p) × (w / 2 ^ 4 % 2 ≡ a) × (w / 2 ^ 6 % 2 ≡ z) × (w / 2 ^ 7 % 2 ≡ s) × (w / 2 ^ 11 % 2 ≡ o)) places in
       λ i. record {
-        carry = flag-of f.carry at.0 i;
-        parity = flag-of f.parity at.1 i;
-        aux_carry = flag-of f.aux_carry at.2 i;
-        zero = flag-of f.zero at.3 i;
-        sign = flag-of f.sign at.4 i;
-        overflow = flag-of f.overflow at.5 i;
+        carry = flag_of f.carry at.0 i;
+        parity = flag_of f.parity at.1 i;
+        aux_carry = flag_of f.aux_carry at.2 i;
+        zero = flag_of f.zero at.3 i;
+        sign = flag_of f.sign at.4 i;
+        overflow = flag_of f.overflow at.5 i;
       }
 
 -- a number from its digits, the quotients between them given
@@ -53,10 +53,10 @@ assembled : (w q4 q16 q64 q256 c p a z s o : ℕ) → w ≡ c + q4 * 4 → q4 �
     → c * 0x0001 + p * 0x0004 + a * 0x0010 + z * 0x0040 + s * 0x0080 + o * 0x0800 ≡ w
 assembled w q4 q16 q64 q256 c p a z s o e0 e2 e4 e6 e8 = omega arith
 
-pub together-apart : (w : ℕ) → Within w → word_of (flags_of w) ≡ w
+pub together_apart : (w : ℕ) → Within w → word_of (flags_of w) ≡ w
 unfolding flags_of word_of
-together-apart w h =
-    simp bit-isSet
+together_apart w h =
+    simp bit-is_set
     (assembled w (w / 4) (w / 16) (w / 64) (w / 256) _ _ _ _ _ _ (first h.bit1) (second h.bit3) (third h.bit5) fourth (fifth h.bits8to10 h.above))
   where
     first : w / 2 % 2 ≡ 0 → w ≡ w / 1 % 2 + w / 4 * 4
@@ -76,8 +76,8 @@ together-apart w h =
 
 -- ---- a word is one of flags exactly where the mask 08D5 keeps it
 
-kept-digit : (k w : ℕ) → 0x08D5 / 2 ^ k % 2 ≡ 1 → is_set k (bit_and w 0x08D5) ≡ is_set k w
-kept-digit k w e =
+kept_digit : (k w : ℕ) → 0x08D5 / 2 ^ k % 2 ≡ 1 → is_set k (bit_and w 0x08D5) ≡ is_set k w
+kept_digit k w e =
     let d = w / 2 ^ k % 2 in
     ap (λ (x : ℕ). eqb x 1) (digit_and k w 0x08D5 ∙ ap (bit_and d) e ∙ and_mask d 1 ∙ mod-eq_of_lt (mod-lt (w / 2 ^ k) (lit< tt)))
 
@@ -85,8 +85,8 @@ cleared : (k j w : ℕ) → 0x08D5 / 2 ^ k % 2 ^ j ≡ 0 → bit_and w 0x08D5 / 
 cleared k j w e =
     ap (λ (x : ℕ). x % 2 ^ j) (and_shr w 0x08D5 k) ∙ and_mod (w / 2 ^ k) (0x08D5 / 2 ^ k) j ∙ ap (bit_and (w / 2 ^ k % 2 ^ j)) e ∙ and_zero_r (w / 2 ^ k % 2 ^ j)
 
-masked-within : (w : ℕ) → Within (bit_and w 0x08D5)
-masked-within w =
+masked_within : (w : ℕ) → Within (bit_and w 0x08D5)
+masked_within w =
     record {
       bit1 = cleared 1 1 w refl;
       bit3 = cleared 3 1 w refl;
@@ -95,19 +95,19 @@ masked-within w =
       above = omega (arith, and_le_r w 0x08D5);
     }
 
-pub is-masked : (w : ℕ) → isFlags w ≡ eqb (bit_and w 0x08D5) w
-unfolding isFlags flags_of
-is-masked w =
+pub is_masked : (w : ℕ) → is_flags w ≡ eqb (bit_and w 0x08D5) w
+unfolding is_flags flags_of
+is_masked w =
     let same : flags_of w ≡ flags_of (bit_and w 0x08D5) =
     λ i. record {
-      carry = sym (kept-digit 0 w refl) i;
-      parity = sym (kept-digit 2 w refl) i;
-      aux_carry = sym (kept-digit 4 w refl) i;
-      zero = sym (kept-digit 6 w refl) i;
-      sign = sym (kept-digit 7 w refl) i;
-      overflow = sym (kept-digit 11 w refl) i;
+      carry = sym (kept_digit 0 w refl) i;
+      parity = sym (kept_digit 2 w refl) i;
+      aux_carry = sym (kept_digit 4 w refl) i;
+      zero = sym (kept_digit 6 w refl) i;
+      sign = sym (kept_digit 7 w refl) i;
+      overflow = sym (kept_digit 11 w refl) i;
     } in
-    ap (λ (v : ℕ). eqb v w) (ap word_of same ∙ together-apart (bit_and w 0x08D5) (masked-within w))
+    ap (λ (v : ℕ). eqb v w) (ap word_of same ∙ together_apart (bit_and w 0x08D5) (masked_within w))
 
 -- a digit put in below a word that was shifted to make room
 abbrev pub pushed : ℕ → ℕ → ℕ → ℕ
@@ -117,11 +117,11 @@ push : (k w b : ℕ) {v : ℕ} → w ≡ v → v * 2 ^ k < 2 ^ 16 → b < 2 ^ k 
 push k w b {v} e small hb = ap (λ (x : ℕ). pushed k x b) e ∙ ap (λ (x : ℕ). bit_or x b) (mod-eq_of_lt small) ∙ or_shifted v k b hb
 
 -- the six put in one after the other, from the highest down
-pub pushed-six : (f : Flags)
+pub pushed_six : (f : Flags)
     → pushed 2 (pushed 2 (pushed 2 (pushed 1 (pushed 4 (bit f.overflow) (bit f.sign)) (bit f.zero)) (bit f.aux_carry)) (bit f.parity)) (bit f.carry)
     ≡ word_of f
 unfolding word_of
-pushed-six f =
+pushed_six f =
     let c = bit_le f.carry in
     let p = bit_le f.parity in
     let a = bit_le f.aux_carry in
@@ -135,6 +135,6 @@ pushed-six f =
     push 2 _ (bit f.carry) w9 (omega arith) (omega arith) ∙ omega arith
 
 -- a word within 08D5 passes the test
-pub within-flags : (w : ℕ) → Within w → isFlags w ≡ true
-unfolding isFlags
-within-flags w h = eq-eqb (word_of (flags_of w)) w (together-apart w h)
+pub within_flags : (w : ℕ) → Within w → is_flags w ≡ true
+unfolding is_flags
+within_flags w h = eq-eqb (word_of (flags_of w)) w (together_apart w h)

@@ -6,9 +6,9 @@ use Rattle.numbers.specs.Numbers.{bit}
 use Rattle.numbers.specs.Table.{Holds}
 
 -- the ones in that byte are even in number
-unfoldable pub evenOnes : ℕ → Bool
-evenOnes x = eqb (ones (x % 256) % 2) 0
+unfoldable pub even_ones : ℕ → Bool
+even_ones x = eqb (ones (x % 256) % 2) 0
 
 -- the rule at every byte, 1 for even and 0 for odd
 abbrev pub ParityTable : List ℕ → Type 0
-ParityTable = Holds (λ x. bit (evenOnes x)) 256
+ParityTable = Holds (λ x. bit (even_ones x)) 256

@@ -23,20 +23,20 @@ flags_of w =
     }
 
 -- no bit is set but those six, all together 08D5: the flags of the word, put together, are the word
-unfoldable pub isFlags : ℕ → Bool
-isFlags w = eqb (word_of (flags_of w)) w
+unfoldable pub is_flags : ℕ → Bool
+is_flags w = eqb (word_of (flags_of w)) w
 
 -- an operation that names C alone; the other five stay
-abbrev pub setC : Bool → Flags → Flags
-setC c f =
+abbrev pub set_c : Bool → Flags → Flags
+set_c c f =
     record { carry = c; parity = f.parity; aux_carry = f.aux_carry; zero = f.zero; sign = f.sign; overflow = f.overflow }
 
 -- one that names C and O
-abbrev pub setCO : Bool → Bool → Flags → Flags
-setCO c o f =
+abbrev pub set_co : Bool → Bool → Flags → Flags
+set_co c o f =
     record { carry = c; parity = f.parity; aux_carry = f.aux_carry; zero = f.zero; sign = f.sign; overflow = o }
 
 -- one that names C, O and A
-abbrev pub setCOA : Bool → Bool → Bool → Flags → Flags
-setCOA c o a f =
+abbrev pub set_coa : Bool → Bool → Bool → Flags → Flags
+set_coa c o a f =
     record { carry = c; parity = f.parity; aux_carry = a; zero = f.zero; sign = f.sign; overflow = o }

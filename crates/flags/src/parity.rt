@@ -2,7 +2,7 @@
 // The language has no static memory, so a constant table is built anew wherever it is indexed. It is
 // therefore built once for an operation that asks for P, and lent to everything below.
 ghost use Rattle.std.specs.Prelude.{◌≡◌};
-ghost use Rattle.flags.specs.Parity.{ParityTable, evenOnes};
+ghost use Rattle.flags.specs.Parity.{ParityTable, even_ones};
 
 const PARITY_TABLE: [u8; 256] = [
     1, // 00
@@ -32,7 +32,7 @@ pub fn parity_table() -> [u8; 256]
 
 pub fn parity(table: &[u8; 256], byte: u8) -> bool
     requires { ParityTable table.now }
-    ensures { result ≡ evenOnes byte }
+    ensures { result ≡ even_ones byte }
 {
     table[byte as usize] != 0
 }

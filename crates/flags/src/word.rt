@@ -1,6 +1,6 @@
 // The flags word, taken apart into a record of its six flags and put together again.
 ghost use Rattle.std.specs.Prelude.{◌≡◌};
-ghost use Rattle.flags.specs.Word.{flags_of, word_of, isFlags, setC, setCO, setCOA};
+ghost use Rattle.flags.specs.Word.{flags_of, word_of, is_flags, set_c, set_co, set_coa};
 
 #[derive(Drop)]
 pub struct Flags {
@@ -53,14 +53,14 @@ impl Flags {
 
     // Whether every bit of the word is a flag: such a word comes back from being taken apart.
     pub fn is_flags(word: u16) -> bool
-        ensures { result ≡ isFlags word }
+        ensures { result ≡ is_flags word }
     {
         Flags::from_word(word).to_word() == word
     }
 
     // What an operation that names C alone leaves: the other five as handed in.
     pub fn with_c(self, carry: bool) -> Flags
-        ensures { result ≡ setC carry self }
+        ensures { result ≡ set_c carry self }
     {
         Flags {
             carry,
@@ -74,7 +74,7 @@ impl Flags {
 
     // What an operation that names C and O leaves.
     pub fn with_co(self, carry: bool, overflow: bool) -> Flags
-        ensures { result ≡ setCO carry overflow self }
+        ensures { result ≡ set_co carry overflow self }
     {
         Flags {
             carry,
@@ -88,7 +88,7 @@ impl Flags {
 
     // What an operation that names C, O and A leaves.
     pub fn with_coa(self, carry: bool, overflow: bool, aux_carry: bool) -> Flags
-        ensures { result ≡ setCOA carry overflow aux_carry self }
+        ensures { result ≡ set_coa carry overflow aux_carry self }
     {
         Flags {
             carry,

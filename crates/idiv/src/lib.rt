@@ -2,9 +2,9 @@
 // their signs or refuses a quotient that is too large for them, after cpu_808x/muldiv.rs of MartyPC.
 ghost use Rattle.std.specs.Prelude.{◌≡◌, ◌<◌};
 ghost use Rattle.negate.specs.Views.{pair8, pair16, negate8, negate16};
-ghost use Rattle.idiv.specs.Idiv.{preIdiv, postIdiv, with_sign};
+ghost use Rattle.idiv.specs.Idiv.{pre_idiv, post_idiv, with_sign};
 ghost use Rattle.cord.specs.Views.{results8, results16};
-ghost use Rattle.idiv.specs.Views.{post8Answer, post16Answer};
+ghost use Rattle.idiv.specs.Views.{post8_answer, post16_answer};
 
 use alu::subtraction;
 use cord::{Results8, Results16};
@@ -25,7 +25,7 @@ pub enum PostIdiv8 {
 
 pub fn pre_idiv8(dividend: Pair8, tmpb: u8) -> Negate8
     requires { dividend.steps < 100 }
-    ensures { negate8 result ≡ preIdiv 8 (pair8 dividend) tmpb }
+    ensures { negate8 result ≡ pre_idiv 8 (pair8 dividend) tmpb }
 {
     if dividend.tmpa & Width8::TOP != 0 {
         let from = Pair8 {
@@ -61,7 +61,7 @@ fn with_sign8(negative: bool, magnitude: u8) -> u8
 // The remainder takes the sign of the dividend, whose upper half tells it.
 pub fn post_idiv8(results: Results8, upper: u8, carry: bool, negate: bool, steps: u16) -> PostIdiv8
     requires { steps < 1000 }
-    ensures { post8Answer result ≡ postIdiv 8 (results8 results) upper carry negate steps }
+    ensures { post8_answer result ≡ post_idiv 8 (results8 results) upper carry negate steps }
 {
     if !carry {
         return PostIdiv8::Refused { steps: steps + 2 };
@@ -87,7 +87,7 @@ pub enum PostIdiv16 {
 
 pub fn pre_idiv16(dividend: Pair16, tmpb: u16) -> Negate16
     requires { dividend.steps < 100 }
-    ensures { negate16 result ≡ preIdiv 16 (pair16 dividend) tmpb }
+    ensures { negate16 result ≡ pre_idiv 16 (pair16 dividend) tmpb }
 {
     if dividend.tmpa & Width16::TOP != 0 {
         let from = Pair16 {
@@ -128,7 +128,7 @@ pub fn post_idiv16(
     steps: u16,
 ) -> PostIdiv16
     requires { steps < 1000 }
-    ensures { post16Answer result ≡ postIdiv 16 (results16 results) upper carry negate steps }
+    ensures { post16_answer result ≡ post_idiv 16 (results16 results) upper carry negate steps }
 {
     if !carry {
         return PostIdiv16::Refused { steps: steps + 2 };

@@ -135,9 +135,9 @@ module _ {M : Type 1} {𝓤 : Ura M} (𝓛 : Logic 𝓤) where
   makes (number w) = uint_Makes 𝓛 w
   makes truth = bool_Makes 𝓛
 
-  pub owned-all : (κs : Lfts 1) (ks : List Handed) (a : Denots (rows 1 κs ks)) → Good 1 κs ks a → ent 𝓤 (emp 𝓤) (sem 𝓛 (owns (rows 0 tt ks) (down κs ks a) (values 0 tt ks (down κs ks a))))
-  owned-all κs [] a are = id⊢ 𝓤 (emp 𝓤)
-  owned-all κs (k ∷ ks) a are = via 𝓤 (sep 𝓤 (emp 𝓤) (emp 𝓤)) (emp∗ 𝓤 (emp 𝓤)) (mono∗ 𝓤 (makes k a.0 _ are.0) (owned-all κs ks a.1 are.1))
+  pub owned_all : (κs : Lfts 1) (ks : List Handed) (a : Denots (rows 1 κs ks)) → Good 1 κs ks a → ent 𝓤 (emp 𝓤) (sem 𝓛 (owns (rows 0 tt ks) (down κs ks a) (values 0 tt ks (down κs ks a))))
+  owned_all κs [] a are = id⊢ 𝓤 (emp 𝓤)
+  owned_all κs (k ∷ ks) a are = via 𝓤 (sep 𝓤 (emp 𝓤) (emp 𝓤)) (emp∗ 𝓤 (emp 𝓤)) (mono∗ 𝓤 (makes k a.0 _ are.0) (owned_all κs ks a.1 are.1))
 
 -- ---- in the MIR
 abbrev pub locals : List Handed → List Local → List Local
@@ -171,9 +171,9 @@ abbrev pub env : (ks : List Handed) → Blocks ks → List (Ty × ℕ) → List 
 env [] bs E = E
 env (k ∷ ks) bs E = (ty_of k, bs.0) ∷ env ks bs.1 E
 
-pub at-past : {M : Type 1} (𝓤 : Ura M) (H : Heap 𝓤) (ks : List Handed) (bs : Blocks ks) (E : Env 𝓤 H) (i : ℕ) → spot_of 𝓤 H (env ks bs E) (past ks i) ≡ spot_of 𝓤 H E i
-at-past 𝓤 H [] bs E i = refl
-at-past 𝓤 H (k ∷ ks) bs E i = at-past 𝓤 H ks bs.1 E i
+pub at_past : {M : Type 1} (𝓤 : Ura M) (H : Heap 𝓤) (ks : List Handed) (bs : Blocks ks) (E : Env 𝓤 H) (i : ℕ) → spot_of 𝓤 H (env ks bs E) (past ks i) ≡ spot_of 𝓤 H E i
+at_past 𝓤 H [] bs E i = refl
+at_past 𝓤 H (k ∷ ks) bs E i = at_past 𝓤 H ks bs.1 E i
 
 module _ {M : Type 1} {𝓤 : Ura M} {𝓛 : Logic 𝓤} where
   open 𝓛 use {H}
@@ -199,15 +199,15 @@ module _ {M : Type 1} {𝓤 : Ura M} {𝓛 : Logic 𝓤} where
       pass_all t [] bs a E are = pass0 t
       pass_all t (k ∷ ks) bs a E are = step (λ s. fsplit3 t $ pass1 t (init t 0 refl (typed k a.0 are.0)) $ move t (2 ∷ 0 ∷ 1 ∷ []) $ pass_all t ks bs.1 a.1 E are.1 $ move t (1 ∷ 2 ∷ 0 ∷ []) $ fjoin3 t $ s)
 
-      load-all : K → {Γ : List (Item 𝓤)} (ks : List Handed) (bs : Blocks ks) (a : Denots (rows 1 κs ks)) {E : Env 𝓤 H} (E' : Env 𝓤 H) (f : ℕ → ℕ) → ((i : ℕ) → spot_of 𝓤 H E (f i) ≡ spot_of 𝓤 H (env ks bs E') i)
+      load_all : K → {Γ : List (Item 𝓤)} (ks : List Handed) (bs : Blocks ks) (a : Denots (rows 1 κs ks)) {E : Env 𝓤 H} (E' : Env 𝓤 H) (f : ℕ → ℕ) → ((i : ℕ) → spot_of 𝓤 H E (f i) ≡ spot_of 𝓤 H (env ks bs E') i)
           → Opds K 𝓛 (‵ (cells κs ks bs a) ∷ Γ) E (copies ks f) (flat (rows 0 tt ks) (values 0 tt ks (down κs ks a)))
-      load-all t [] bs a E' f same = no_more t
-      load-all t {Γ} (k ∷ ks) bs a E' f same =
+      load_all t [] bs a E' f same = no_more t
+      load_all t {Γ} (k ∷ ks) bs a E' f same =
           let cell : Fml = fat full_share (ty_of k) bs.0 zero (val_of k a.0) in
           let dies : Fml = fdies (ty_of k) bs.0 in
           let rest : Fml = cells κs ks bs.1 a.1 in
           regroup t (‵ rest ∷ ‵ cell ∷ ‵ dies ∷ Γ) (qed 𝓛 (‵ (fsep cell (fsep dies rest)) ∷ Γ) ∵ fsplit3 ! $ move ! (2 ∷ 0 ∷ 1 ∷ []) $ done !) (qed 𝓛 (‵ rest ∷ ‵ cell ∷ ‵ dies ∷ Γ) ∵ move ! (1 ∷ 2 ∷ 0 ∷ []) $ fjoin3 ! $ done !)
-          (and_then t (load t (from_at t (same 0) (stop t)) (look t 1 refl)) (load-all t {Γ = ‵ cell ∷ ‵ dies ∷ Γ} ks bs.1 a.1 E' (λ i. f (suc i)) (λ i. same (suc i))))
+          (and_then t (load t (from_at t (same 0) (stop t)) (look t 1 refl)) (load_all t {Γ = ‵ cell ∷ ‵ dies ∷ Γ} ks bs.1 a.1 E' (λ i. f (suc i)) (λ i. same (suc i))))
 
       -- the same where the cells are entry n of the context
       pub load_at : K → {Γ : List (Item 𝓤)} (n : ℕ) (ks : List Handed) (bs : Blocks ks) (a : Denots (rows 1 κs ks)) {E : Env 𝓤 H} (E' : Env 𝓤 H) (f : ℕ → ℕ) → ((i : ℕ) → spot_of 𝓤 H E (f i) ≡ spot_of 𝓤 H (env ks bs E') i)
@@ -218,7 +218,7 @@ module _ {M : Type 1} {𝓤 : Ura M} {𝓛 : Logic 𝓤} where
           regroup t (head ∷ rest)
           (via 𝓤 (sep 𝓤 (mean 𝓛 head) (⋆ 𝓛 rest)) (subst (λ (j : Item 𝓤). ent 𝓤 (⋆ 𝓛 Γ) (sep 𝓤 (mean 𝓛 j) (⋆ 𝓛 rest))) e (pull 𝓛 n Γ)) (push 𝓛 head rest))
           (via 𝓤 (sep 𝓤 (mean 𝓛 head) (⋆ 𝓛 rest)) (pop 𝓛 head rest) (subst (λ (j : Item 𝓤). ent 𝓤 (sep 𝓤 (mean 𝓛 j) (⋆ 𝓛 rest)) (⋆ 𝓛 Γ)) e (unpull 𝓛 n Γ)))
-          (load-all t ks bs a E' f same)
+          (load_all t ks bs a E' f same)
 
       pub free_all : K → {Γ : List (Item 𝓤)} (ks : List Handed) (bs : Blocks ks) (a : Denots (rows 1 κs ks)) {E : Env 𝓤 H} {g : Goal 𝓤 H}
           → Step K 𝓛 Γ (frees E g) (‵ (cells κs ks bs a) ∷ Γ) (frees (env ks bs E) g)

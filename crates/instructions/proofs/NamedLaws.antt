@@ -4,41 +4,41 @@ use Prim.Native.Nat.{ℕ, ◌≤◌, ◌<◌}
 use native.Mathlib.Omega.{arith}
 use borrow.Author.Tests.{le-leb}
 use Rattle.numbers.specs.Numbers.{bit, is_set}
-use Rattle.flags.specs.{Word.flags_of, Word.isFlags, declared.word.Flags.Flags}
+use Rattle.flags.specs.{Word.flags_of, Word.is_flags, declared.word.Flags.Flags}
 use Rattle.divide.specs.Divide.{divide}
 use Rattle.bcd.specs.declared.adjust.Adjusted.{Adjusted}
-use Rattle.request.specs.{Operation.ops, Operation.listed, Operation.operationOf, Limits.adjustMost, Limits.xMost, Limits.yMost, Judge.raw, Judge.requestOf, Judge.judged}
+use Rattle.request.specs.{Operation.ops, Operation.listed, Operation.operation_of, Limits.adjust_most, Limits.x_most, Limits.y_most, Judge.raw, Judge.request_of, Judge.judged}
 use Rattle.request.specs.{Judge.Admitted, Judge.TooLarge, declared.operation.Width.TheVariants.Byte, declared.operation.Width.TheVariants.Word}
 use Rattle.request.specs.{declared.decode.Decoded.TheVariants.Operation as Names, declared.operation.Operation.Operation}
 use Rattle.request.specs.declared.operation.Operation.TheVariants.{Multiply, Divide, Decimal as OfDecimal}
 use Rattle.request.specs.declared.operation.Decimal.{Decimal}
 use Rattle.request.specs.declared.operation.Decimal.TheVariants.{Aaa, Aas, Aad, Daa, Das}
-use Rattle.answer.specs.{Charted.ofDivided, Charted.ofAdjusted, Charted.adjustOf, Charted.chartedBy, Charted.charted, Asked.zeros, Asked.ofJudged, Asked.asked}
+use Rattle.answer.specs.{Charted.of_divided, Charted.of_adjusted, Charted.adjust_of, Charted.charted_by, Charted.charted, Asked.zeros, Asked.of_judged, Asked.asked}
 use Rattle.answer.specs.declared.answer.Answer.{Answer}
 use Rattle.answer.proofs.Width.{divided-fits}
-use Rattle.registers.specs.{Over.is_over, Over.byOp, Over.read_by, Over.axBy, Over.dxBy, Over.settled_of, Over.requestOver, Over.over, declared.record.Registers.Registers}
+use Rattle.registers.specs.{Over.is_over, Over.by_op, Over.read_by, Over.ax_by, Over.dx_by, Over.settled_of, Over.request_over, Over.over, declared.record.Registers.Registers}
 use Rattle.registers.specs.declared.record.Settled.{Settled}
-use Rattle.instructions.specs.Named.{modeBy, checkedBy}
-use Rattle.registers.proofs.OverLaws.{over-is}
+use Rattle.instructions.specs.Named.{mode_by, checked_by}
+use Rattle.registers.proofs.OverLaws.{over_is}
 
 -- ---- what is asked
 
-by-limits : (k : Bool) (o : Operation) (op mode w x y : ℕ) → ofJudged (cond k (Admitted (requestOf o (raw op mode w x y))) TooLarge) ≡ cond k (chartedBy o x y (flags_of w)) (zeros 5)
+by_limits : (k : Bool) (o : Operation) (op mode w x y : ℕ) → of_judged (cond k (Admitted (request_of o (raw op mode w x y))) TooLarge) ≡ cond k (charted_by o x y (flags_of w)) (zeros 5)
 unfolding charted
-by-limits true o op mode w x y = refl
-by-limits false o op mode w x y = refl
+by_limits true o op mode w x y = refl
+by_limits false o op mode w x y = refl
 
 -- of an operation with operands that it takes, only the flags are left to judge
-pub asked-named : (o : Operation) (op mode w x y : ℕ) → operationOf op mode ≡ Names o → x ≤ xMost o → y ≤ yMost o
-    → asked (raw op mode w x y) ≡ checkedBy w (chartedBy o x y (flags_of w))
+pub asked-named : (o : Operation) (op mode w x y : ℕ) → operation_of op mode ≡ Names o → x ≤ x_most o → y ≤ y_most o
+    → asked (raw op mode w x y) ≡ checked_by w (charted_by o x y (flags_of w))
 unfolding asked judged
-asked-named o op mode w x y e hx hy = rw (e, le-leb x (xMost o) hx, le-leb y (yMost o) hy) (by-limits (isFlags w) o op mode w x y)
+asked-named o op mode w x y e hx hy = rw (e, le-leb x (x_most o) hx, le-leb y (y_most o) hy) (by_limits (is_flags w) o op mode w x y)
 
 -- ---- the operations by their names
 
 -- the mode of a multiply or divide has its width, its sign rule and REP
-pub named-multiply : (wide signed rep : Bool) → operationOf 0x10 (modeBy wide signed rep) ≡ Names (Multiply (record { width = cond wide Word Byte; signed = signed; rep = rep }))
-unfolding operationOf listed ops
+pub named-multiply : (wide signed rep : Bool) → operation_of 0x10 (mode_by wide signed rep) ≡ Names (Multiply (record { width = cond wide Word Byte; signed = signed; rep = rep }))
+unfolding operation_of listed ops
 named-multiply true true true = refl
 named-multiply true true false = refl
 named-multiply true false true = refl
@@ -48,8 +48,8 @@ named-multiply false true false = refl
 named-multiply false false true = refl
 named-multiply false false false = refl
 
-pub named-divide : (wide signed rep : Bool) → operationOf 0x11 (modeBy wide signed rep) ≡ Names (Divide (record { width = cond wide Word Byte; signed = signed; rep = rep }))
-unfolding operationOf listed ops
+pub named-divide : (wide signed rep : Bool) → operation_of 0x11 (mode_by wide signed rep) ≡ Names (Divide (record { width = cond wide Word Byte; signed = signed; rep = rep }))
+unfolding operation_of listed ops
 named-divide true true true = refl
 named-divide true true false = refl
 named-divide true false true = refl
@@ -59,7 +59,7 @@ named-divide false true false = refl
 named-divide false false true = refl
 named-divide false false false = refl
 
-pub width-told : (wide signed rep : Bool) → is_set 0 (modeBy wide signed rep) ≡ wide
+pub width-told : (wide signed rep : Bool) → is_set 0 (mode_by wide signed rep) ≡ wide
 width-told true true true = refl
 width-told true true false = refl
 width-told true false true = refl
@@ -77,8 +77,8 @@ op_of Aad = 0x1A
 op_of Daa = 0x1B
 op_of Das = 0x1C
 
-named-adjust : (d : Decimal) → operationOf (op_of d) 0x00 ≡ Names (OfDecimal d)
-unfolding operationOf listed ops
+named-adjust : (d : Decimal) → operation_of (op_of d) 0x00 ≡ Names (OfDecimal d)
+unfolding operation_of listed ops
 named-adjust Aaa = refl
 named-adjust Aas = refl
 named-adjust Aad = refl
@@ -88,26 +88,26 @@ named-adjust Das = refl
 -- ---- what is settled of it
 
 -- of a mode only the width counts for what is read and taken
-width-alone : (op mode : ℕ) (w : Bool) → is_set 0 mode ≡ w → (a b c d e : ℕ) → byOp op (bit w) a b c d e ≡ byOp op mode a b c d e
-width-alone op mode true h a b c d e = rw h
-width-alone op mode false h a b c d e = rw h
+width_alone : (op mode : ℕ) (w : Bool) → is_set 0 mode ≡ w → (a b c d e : ℕ) → by_op op (bit w) a b c d e ≡ by_op op mode a b c d e
+width_alone op mode true h a b c d e = rw h
+width_alone op mode false h a b c d e = rw h
 
 -- an operation by its name, from what its chart made of what it reads; w says whether it is of 16 bits
-pub over-named : (k : Operation) (op mode : ℕ) (w : Bool) (y : ℕ) (r : Registers) → operationOf op mode ≡ Names k → is_over op ≡ true → is_set 0 mode ≡ w → read_by op (bit w) r.ax r.dx ≤ xMost k
-    → y ≤ yMost k → {made : Answer} → made ≡ chartedBy k (read_by op (bit w) r.ax r.dx) y (flags_of r.flags) → {a : Answer} → a ≡ checkedBy r.flags made → {ax dx : ℕ} → ax ≡ axBy op (bit w) a
-    → dx ≡ dxBy op (bit w) r.dx a → {o : Settled} → o ≡ settled_of r a ax dx → o ≡ over op mode y r
+pub over-named : (k : Operation) (op mode : ℕ) (w : Bool) (y : ℕ) (r : Registers) → operation_of op mode ≡ Names k → is_over op ≡ true → is_set 0 mode ≡ w → read_by op (bit w) r.ax r.dx ≤ x_most k
+    → y ≤ y_most k → {made : Answer} → made ≡ charted_by k (read_by op (bit w) r.ax r.dx) y (flags_of r.flags) → {a : Answer} → a ≡ checked_by r.flags made → {ax dx : ℕ} → ax ≡ ax_by op (bit w) a
+    → dx ≡ dx_by op (bit w) r.dx a → {o : Settled} → o ≡ settled_of r a ax dx → o ≡ over op mode y r
 over-named k op mode w y r named listed wide hx hy em {a} ea eax edx eo =
-    let read : read_by op (bit w) r.ax r.dx ≡ read_by op mode r.ax r.dx = width-alone op mode w wide _ _ _ _ _ in
-    let answered : a ≡ asked (requestOver op mode y r) = ea ∙ ap (checkedBy r.flags) em ∙ sym (asked-named k op mode r.flags (read_by op (bit w) r.ax r.dx) y named hx hy) ∙ ap (λ (x : ℕ). asked (raw op mode r.flags x y)) read in
-    over-is op mode y r listed answered (eax ∙ width-alone op mode w wide _ _ _ _ _) (edx ∙ width-alone op mode w wide _ _ _ _ _) eo
+    let read : read_by op (bit w) r.ax r.dx ≡ read_by op mode r.ax r.dx = width_alone op mode w wide _ _ _ _ _ in
+    let answered : a ≡ asked (request_over op mode y r) = ea ∙ ap (checked_by r.flags) em ∙ sym (asked-named k op mode r.flags (read_by op (bit w) r.ax r.dx) y named hx hy) ∙ ap (λ (x : ℕ). asked (raw op mode r.flags x y)) read in
+    over_is op mode y r listed answered (eax ∙ width_alone op mode w wide _ _ _ _ _) (edx ∙ width_alone op mode w wide _ _ _ _ _) eo
 
 -- the adjusts: AX takes R, and DX stays
-pub over-adjust : (d : Decimal) (y : ℕ) (r : Registers) → r.ax ≤ 0xFFFF → y ≤ adjustMost d → {f : Flags} → f ≡ flags_of r.flags → {m : Adjusted} → m ≡ adjustOf d r.ax y f → {made : Answer}
-    → made ≡ ofAdjusted m → {o : Settled} → o ≡ settled_of r (checkedBy r.flags made) (checkedBy r.flags made).r r.dx → o ≡ over (op_of d) 0x00 y r
-over-adjust d y r hx hy ef em ed = by d hy (ed ∙ ap ofAdjusted (em ∙ ap (adjustOf d r.ax y) ef))
+pub over-adjust : (d : Decimal) (y : ℕ) (r : Registers) → r.ax ≤ 0xFFFF → y ≤ adjust_most d → {f : Flags} → f ≡ flags_of r.flags → {m : Adjusted} → m ≡ adjust_of d r.ax y f → {made : Answer}
+    → made ≡ of_adjusted m → {o : Settled} → o ≡ settled_of r (checked_by r.flags made) (checked_by r.flags made).r r.dx → o ≡ over (op_of d) 0x00 y r
+over-adjust d y r hx hy ef em ed = by d hy (ed ∙ ap of_adjusted (em ∙ ap (adjust_of d r.ax y) ef))
   where
-    by : (d : Decimal) → y ≤ adjustMost d → {made : Answer} → made ≡ ofAdjusted (adjustOf d r.ax y (flags_of r.flags)) → {o : Settled}
-        → o ≡ settled_of r (checkedBy r.flags made) (checkedBy r.flags made).r r.dx → o ≡ over (op_of d) 0x00 y r
+    by : (d : Decimal) → y ≤ adjust_most d → {made : Answer} → made ≡ of_adjusted (adjust_of d r.ax y (flags_of r.flags)) → {o : Settled}
+        → o ≡ settled_of r (checked_by r.flags made) (checked_by r.flags made).r r.dx → o ≡ over (op_of d) 0x00 y r
     by Aaa h e = over-named (OfDecimal Aaa) 0x18 0x00 false y r (named-adjust Aaa) refl refl hx h e refl refl refl
     by Aas h e = over-named (OfDecimal Aas) 0x19 0x00 false y r (named-adjust Aas) refl refl hx h e refl refl refl
     by Aad h e = over-named (OfDecimal Aad) 0x1A 0x00 false y r (named-adjust Aad) refl refl hx h e refl refl refl
@@ -115,9 +115,9 @@ over-adjust d y r hx hy ef em ed = by d hy (ed ∙ ap ofAdjusted (em ∙ ap (adj
     by Das h e = over-named (OfDecimal Das) 0x1C 0x00 false y r (named-adjust Das) refl refl hx h e refl refl refl
 
 -- the results of an 8-bit divide are bytes
-pub checked-bytes : (w : ℕ) (s rep : Bool) (d b : ℕ) (f : Flags) {made a : Answer} → made ≡ ofDivided (divide 8 s rep d b f) → a ≡ checkedBy w made → (a.r < 0x100) × (a.s < 0x100)
-checked-bytes w s rep d b f em ea = subst (λ (q : Answer). (q.r < 0x100) × (q.s < 0x100)) (sym (ea ∙ ap (checkedBy w) em)) (by (isFlags w))
+pub checked_bytes : (w : ℕ) (s rep : Bool) (d b : ℕ) (f : Flags) {made a : Answer} → made ≡ of_divided (divide 8 s rep d b f) → a ≡ checked_by w made → (a.r < 0x100) × (a.s < 0x100)
+checked_bytes w s rep d b f em ea = subst (λ (q : Answer). (q.r < 0x100) × (q.s < 0x100)) (sym (ea ∙ ap (checked_by w) em)) (by (is_flags w))
   where
-    by : (k : Bool) → let q = cond k (ofDivided (divide 8 s rep d b f)) (zeros 5) in (q.r < 0x100) × (q.s < 0x100)
+    by : (k : Bool) → let q = cond k (of_divided (divide 8 s rep d b f)) (zeros 5) in (q.r < 0x100) × (q.s < 0x100)
     by true = divided-fits 8 s rep d b f
     by false = (omega arith, omega arith)

@@ -1,7 +1,7 @@
 -- The one walk of every function that reads a `Registers` behind a `&mut`, calls a function on a copy of it and on the rest of its parameters, stores the record that that
 -- returns, and returns the status and the steps. Such functions differ in the rest of their parameters (`Handed.antt`), in the callee's name and in what the callee comes to, and nothing else.
 --     thin ks k        their MIR, at a callee's name
---     thin-spec        the theorem of one, from its callee's
+--     thin_spec        the theorem of one, from its callee's
 -- Assumes nothing.
 use mathlib.Core.{Path.◌≡◌, Path.refl, Path.ap, List.[], List.◌∷◌, List.List}
 use Prim.Native.Nat.{ℕ, suc}
@@ -40,7 +40,7 @@ use denote.Triple.Entry.{on_entry}
 use denote.Triple.Spec.{triple_of}
 use denote.Triple.Table.{entered, cited}
 use denote.Triple.Walked.{says, Stays, stay_ref, has_of, walk_of, Goes-ref, Walks, ends_at, walked, walk_Meets}
-use Rattle.registers.specs.{Over.settledAs, declared.record.Registers.Registers, declared.record.Settled.Settled}
+use Rattle.registers.specs.{Over.settled_as, declared.record.Registers.Registers, declared.record.Settled.Settled}
 use Rattle.instructions.specs.declared.lent.Told.{Told}
 use Rattle.registers.specs.contracts.record.Registers as T
 use Rattle.registers.proofs.record.Registers.TheLaws as T'
@@ -48,7 +48,7 @@ use Rattle.registers.specs.contracts.record.Settled as O
 use Rattle.registers.proofs.record.Settled.TheLaws as O'
 use Rattle.instructions.specs.contracts.lent.Told as S
 use Rattle.instructions.proofs.lent.Told.TheLaws as S'
-use Rattle.instructions.proofs.Handed.{Handed, Taking, at_all, slots, rows, spells, values, tellss, Good, Passed, down, ends, dropped, fit_all, has_all, go_all, owned-all, locals, copies, past, at-past, from_at, alloc_all, pass_all, load_at, free_all}
+use Rattle.instructions.proofs.Handed.{Handed, Taking, at_all, slots, rows, spells, values, tellss, Good, Passed, down, ends, dropped, fit_all, has_all, go_all, owned_all, locals, copies, past, at_past, from_at, alloc_all, pass_all, load_at, free_all}
 
 abbrev pub thin : List Handed → Name → Fn
 thin ks k = record {
@@ -72,28 +72,28 @@ abbrev behind : ℕ → ℕ → List (Ty × ℕ)
 behind l₂ l₃ = (O'.mir, l₂) ∷ (T'.mir, l₃) ∷ []
 
 -- a signature in which every parameter is seen at the exit
-abbrev over-all : Signature → Ended
-over-all S = record { signature = S; kept = all yes S.params }
+abbrev over_all : Signature → Ended
+over_all S = record { signature = S; kept = all yes S.params }
 
-abbrev callee-ended : List Handed → Ended
-callee-ended ks = over-all (record { lifetimes = 0; outlives = []; params = plain (λ _. T.the_row) ∷ slots 0 ks; result = plain (λ _. O.the_row) })
+abbrev callee_ended : List Handed → Ended
+callee_ended ks = over_all (record { lifetimes = 0; outlives = []; params = plain (λ _. T.the_row) ∷ slots 0 ks; result = plain (λ _. O.the_row) })
 
 abbrev ended : List Handed → Ended
-ended ks = over-all (record { lifetimes = 1; outlives = []; params = RefMutOf (0 ∷ []) tt (plain (λ _. T.the_row)) (λ _. tt) ∷ slots 1 ks; result = plain (λ _. S.the_row) })
+ended ks = over_all (record { lifetimes = 1; outlives = []; params = RefMutOf (0 ∷ []) tt (plain (λ _. T.the_row)) (λ _. tt) ∷ slots 1 ks; result = plain (λ _. S.the_row) })
 
 abbrev stayed : (ks : List Handed) → Stays (ended ks).signature.params (ended ks).kept
 stayed ks = (stay_ref (0 ∷ []) tt (plain (λ _. T.the_row)), dropped ks)
 
 -- the contracts, of the callee and of the thin function, at what the callee comes to
 module _ {M : Type 1} {𝓤 : Ura M} (𝓛 : Logic 𝓤) (ks : List Handed) (F : Registers → Passed ks → Settled) where
-  abbrev callee-clauses : Clauses 𝓤 (callee-ended ks)
-  callee-clauses κs a = record { ghost = Unit {0}; requires = λ _. emp 𝓤; ensures = λ _ r _. fact 𝓤 (r ≡ F a.0 a.1) }
+  abbrev callee_clauses : Clauses 𝓤 (callee_ended ks)
+  callee_clauses κs a = record { ghost = Unit {0}; requires = λ _. emp 𝓤; ensures = λ _ r _. fact 𝓤 (r ≡ F a.0 a.1) }
 
   abbrev pub Callee : Contract 𝓤
-  Callee = triple_of 𝓛 (callee-ended ks).signature (closing 𝓛 (callee-ended ks) callee-clauses)
+  Callee = triple_of 𝓛 (callee_ended ks).signature (closing 𝓛 (callee_ended ks) callee_clauses)
 
   abbrev clauses : Clauses 𝓤 (ended ks)
-  clauses κs a = record { ghost = Unit {0}; requires = λ _. emp 𝓤; ensures = λ _ s end. fact 𝓤 (settledAs s.status s.steps end.0.now ≡ F a.0.now (down κs ks a.1)) }
+  clauses κs a = record { ghost = Unit {0}; requires = λ _. emp 𝓤; ensures = λ _ s end. fact 𝓤 (settled_as s.status s.steps end.0.now ≡ F a.0.now (down κs ks a.1)) }
 
   abbrev pub Thin : Contract 𝓤
   Thin = triple_of 𝓛 (ended ks).signature (closing 𝓛 (ended ks) clauses)
@@ -120,12 +120,12 @@ module _ {M : Type 1} {𝓤 : Ura M} (𝓛 : Logic 𝓤) (ks : List Handed) (F :
 
   asks : Is T.the_row h (T'.lowered h ∷ []) → ent 𝓤 (sem 𝓛 ftrue) ((Callee 𝓛 ks F).pre to)
   asks was =
-      qed 𝓛 (‵ ftrue ∷ []) ∵ use0 𝓛 (‵ (owns (rows 0 tt ks) p (values 0 tt ks p))) (owned-all 𝓛 (κ, tt) ks a good) $
+      qed 𝓛 (‵ ftrue ∷ []) ∵ use0 𝓛 (‵ (owns (rows 0 tt ks) p (values 0 tt ks p))) (owned_all 𝓛 (κ, tt) ks a good) $
       owned ! T.the_row (Is T.the_row) ((LL.makes T.the_type T'.the_plain) 𝓛) h _ was $ fjoin ! $ nothing ! $ join ! $ frame ! $ done !
 
   -- of the callee's `ensured`, the clause alone
-  said : (r : Settled) → ent 𝓤 (ensured 𝓛 (callee-ended ks) (callee-clauses 𝓛 ks F) tt (h, p) tt r) (fact 𝓤 (r ≡ F h p))
-  said r = ex_e 𝓤 _ (λ ws. snd∗ 𝓤 (sem 𝓛 (lasts (callee-ended ks) tt (h, p) ws)) (fact 𝓤 (r ≡ F h p)))
+  said : (r : Settled) → ent 𝓤 (ensured 𝓛 (callee_ended ks) (callee_clauses 𝓛 ks F) tt (h, p) tt r) (fact 𝓤 (r ≡ F h p))
+  said r = ex_e 𝓤 _ (λ ws. snd∗ 𝓤 (sem 𝓛 (lasts (callee_ended ks) tt (h, p) ws)) (fact 𝓤 (r ≡ F h p)))
 
   exits : (r : Settled) → r ≡ F h p → Is S.the_row (told r) (S'.lowered (told r) ∷ []) → ent 𝓤 (sep 𝓤 (A.obs γ ((T.the_row).coded.code r.regs)) (sep 𝓤 (A.bor κ (Body (mem T.the_row) b o γ)) (A.lft κ q))) (Post (S'.lowered (told r)))
   exits r e is =
@@ -146,15 +146,15 @@ module _ {M : Type 1} {𝓤 : Ura M} (𝓛 : Logic 𝓤) (ks : List Handed) (F :
         opens ! tt T.the_row {h = h} b o (λ vs. spelt ! T.the_row (Is T.the_row) (shows 𝓛 T.the_row) (LL.vals T.the_type T'.the_laws) (LL.tells T.the_type T'.the_laws) full_share h vs b o $
         move ! (1 ∷ []) $ peeks ! T.the_row (Is T.the_row) (shows 𝓛 T.the_row) h (LL.vals T.the_type T'.the_laws h) (λ was. drop ! $
         -- [the struct's cell; the open borrow; obs; auth; the cells of what is handed on; true; the copy; …; what comes back; …; _1; …; room for _0; …]
-        assigns ! (of_opd ! (load ! (from ! (hop ! (look ! 10 refl) (stop !))) (look_raw ! 0 refl))) (from_at ! (at-past 𝓤 H ks bs (behind l₂ l₃) 1) (stop !)) (init ! 6 refl ((LL.lawful T.the_type T'.the_laws 𝓛).typed h _ was).0) $
+        assigns ! (of_opd ! (load ! (from ! (hop ! (look ! 10 refl) (stop !))) (look_raw ! 0 refl))) (from_at ! (at_past 𝓤 H ks bs (behind l₂ l₃) 1) (stop !)) (init ! 6 refl ((LL.lawful T.the_type T'.the_laws 𝓛).typed h _ was).0) $
         nothing ! $ use1 𝓛 (raw ((Callee 𝓛 ks F).pre to)) (asks was) $
-        calls_at ! fm (Callee 𝓛 ks F) known to (and_then ! (load ! (from_at ! (at-past 𝓤 H ks bs (behind l₂ l₃) 1) (stop !)) (look ! 7 refl)) (load_at (κ, tt) ! 5 ks bs a (behind l₂ l₃) (λ i. suc (suc i)) (λ i. refl) refl)) (λ u.
-        use1 𝓛 (later (some (λ (r : Settled). (‵ ftrue ⊛ ‵ ((O.the_row).own_val r (u ∷ []))) ⊛ raw (ensured 𝓛 (callee-ended ks) (callee-clauses 𝓛 ks F) tt (h, p) tt r)))) (id⊢ 𝓤 _) $ await ! tt $ pick ! (λ r.
+        calls_at ! fm (Callee 𝓛 ks F) known to (and_then ! (load ! (from_at ! (at_past 𝓤 H ks bs (behind l₂ l₃) 1) (stop !)) (look ! 7 refl)) (load_at (κ, tt) ! 5 ks bs a (behind l₂ l₃) (λ i. suc (suc i)) (λ i. refl) refl)) (λ u.
+        use1 𝓛 (later (some (λ (r : Settled). (‵ ftrue ⊛ ‵ ((O.the_row).own_val r (u ∷ []))) ⊛ raw (ensured 𝓛 (callee_ended ks) (callee_clauses 𝓛 ks F) tt (h, p) tt r)))) (id⊢ 𝓤 _) $ await ! tt $ pick ! (λ r.
         split ! $ move ! (1 ∷ []) $ use1 𝓛 (raw (fact 𝓤 (r ≡ F h p))) (said r) $ heard ! (r ≡ F h p) (λ e. split ! $ drop ! $
         peeks ! O.the_row (Is O.the_row) (shows 𝓛 O.the_row) r (u ∷ []) (λ is. drop ! $
-        land ! (from_at ! (at-past 𝓤 H ks bs (behind l₂ l₃) 0) (stop !)) (init ! 8 refl ((LL.lawful O.the_type O'.the_laws 𝓛).typed r _ is).0) $ rewrite ! 8 (λ (w : Val). ‵ (fat full_share O'.mir l₂ 0 w)) (ap only (LL.tells O.the_type O'.the_laws r _ is)) refl $
-        assigns ! (of_opd ! (load ! (from_at ! (at-past 𝓤 H ks bs (behind l₂ l₃) 0) (fld ! refl (stop !))) (look_in ! 8 (sub ! 2 refl (whole !))))) (from ! (hop ! (look ! 10 refl) (stop !))) (store_raw ! 0 refl ((LL.lawful T.the_type T'.the_laws 𝓛).typed r.regs _ (LL.owed O.the_type O'.the_laws r _ is).1.1.0).0) $
-        assigns ! (agg ! (and_then ! (load ! (from_at ! (at-past 𝓤 H ks bs (behind l₂ l₃) 0) (fld ! refl (stop !))) (look_in ! 8 (sub ! 0 refl (whole !)))) (and_then ! (load ! (from_at ! (at-past 𝓤 H ks bs (behind l₂ l₃) 0) (fld ! refl (stop !))) (look_in ! 8 (sub ! 1 refl (whole !)))) (no_more !)))) (from ! (stop !))
+        land ! (from_at ! (at_past 𝓤 H ks bs (behind l₂ l₃) 0) (stop !)) (init ! 8 refl ((LL.lawful O.the_type O'.the_laws 𝓛).typed r _ is).0) $ rewrite ! 8 (λ (w : Val). ‵ (fat full_share O'.mir l₂ 0 w)) (ap only (LL.tells O.the_type O'.the_laws r _ is)) refl $
+        assigns ! (of_opd ! (load ! (from_at ! (at_past 𝓤 H ks bs (behind l₂ l₃) 0) (fld ! refl (stop !))) (look_in ! 8 (sub ! 2 refl (whole !))))) (from ! (hop ! (look ! 10 refl) (stop !))) (store_raw ! 0 refl ((LL.lawful T.the_type T'.the_laws 𝓛).typed r.regs _ (LL.owed O.the_type O'.the_laws r _ is).1.1.0).0) $
+        assigns ! (agg ! (and_then ! (load ! (from_at ! (at_past 𝓤 H ks bs (behind l₂ l₃) 0) (fld ! refl (stop !))) (look_in ! 8 (sub ! 0 refl (whole !)))) (and_then ! (load ! (from_at ! (at_past 𝓤 H ks bs (behind l₂ l₃) 0) (fld ! refl (stop !))) (look_in ! 8 (sub ! 1 refl (whole !)))) (no_more !)))) (from ! (stop !))
         (init ! 12 refl (tt, (record { fits = (LL.owed O.the_type O'.the_laws r _ is).0.1 }, (record { fits = (LL.owed O.the_type O'.the_laws r _ is).1.0.1 }, tt)))) $
         owned ! T.the_row (Is T.the_row) ((LL.makes T.the_type T'.the_plain) 𝓛) r.regs _ (LL.owed O.the_type O'.the_laws r _ is).1.1.0 $ move ! (1 ∷ 0 ∷ []) $ closes ! tt T.the_row r.regs (T'.lowered r.regs ∷ []) b o $
         -- [obs; the borrow; the token; the cells of what is handed on; true; the copy; …]
@@ -165,12 +165,12 @@ module _ {M : Type 1} {𝓤 : Ura M} (𝓛 : Logic 𝓤) (ks : List Handed) (F :
 module _ {M : Type 1} {𝓤 : Ura M} (𝓛 : Logic 𝓤) (ks : List Handed) (F : Registers → Passed ks → Settled) (𝓣 : Tables 𝓤 𝓛.H) (k : Name) (known : Triple 𝓤 (𝓣.C k) (Callee 𝓛 ks F)) where
   open 𝓛 use {H}
 
-  thin-walks : Walks 𝓛 (ended ks) (stayed ks) (WpFn 𝓤 H 𝓣.C 𝓣.Λ (thin ks k)) (clauses 𝓛 ks F)
-  thin-walks = walked 𝓛 (ended ks) (stayed ks) (clauses 𝓛 ks F) (WpFn 𝓤 H 𝓣.C 𝓣.Λ (thin ks k)) (λ κs. (mut_vals, spells 1 κs ks)) (λ κs. (mut_Tells (named 0) κs.0 T.the_row, tellss 1 κs ks))
+  thin_walks : Walks 𝓛 (ended ks) (stayed ks) (WpFn 𝓤 H 𝓣.C 𝓣.Λ (thin ks k)) (clauses 𝓛 ks F)
+  thin_walks = walked 𝓛 (ended ks) (stayed ks) (clauses 𝓛 ks F) (WpFn 𝓤 H 𝓣.C 𝓣.Λ (thin ks k)) (λ κs. (mut_vals, spells 1 κs ks)) (λ κs. (mut_Tells (named 0) κs.0 T.the_row, tellss 1 κs ks))
       (λ κs qs bounds a _ are. via 𝓤 _ (fst∗ 𝓤 _ (emp 𝓤)) (walk 𝓛 ks F κs.0 qs.0 a.0.ref_ptr.0 a.0.ref_ptr.1 a.0.ghost_name a.0.now a.1 are.1 𝓣.C 𝓣.Λ (fm_of 𝓤 H 𝓛.laws 𝓣) k known))
 
-  thin-meets : Triple 𝓤 (WpFn 𝓤 H 𝓣.C 𝓣.Λ (thin ks k)) (Thin 𝓛 ks F)
-  thin-meets = walk_Meets 𝓛 (ended ks) (stayed ks) (Goes-ref 𝓛 1 0 tt (plain (λ _. T.the_row)), go_all 𝓛 ks) (clauses 𝓛 ks F) (WpFn 𝓤 H 𝓣.C 𝓣.Λ (thin ks k)) (WpFn-mono 𝓤 H 𝓛.laws 𝓣 (thin ks k)) thin-walks
+  thin_meets : Triple 𝓤 (WpFn 𝓤 H 𝓣.C 𝓣.Λ (thin ks k)) (Thin 𝓛 ks F)
+  thin_meets = walk_Meets 𝓛 (ended ks) (stayed ks) (Goes-ref 𝓛 1 0 tt (plain (λ _. T.the_row)), go_all 𝓛 ks) (clauses 𝓛 ks F) (WpFn 𝓤 H 𝓣.C 𝓣.Λ (thin ks k)) (WpFn-mono 𝓤 H 𝓛.laws 𝓣 (thin ks k)) thin_walks
 
 -- f's theorem, from the theorem of the callee, whose name is k and whose routine is r
 module _ {M : Type 1} {𝓤 : Ura M} (𝓛 : Logic 𝓤) (𝓜 : Model 𝓤 𝓛.H) (𝓡 : Running 𝓤 𝓛.H 𝓜) (ks : List Handed) (F : Registers → Taking ks Settled) where
@@ -179,9 +179,9 @@ module _ {M : Type 1} {𝓤 : Ura M} (𝓛 : Logic 𝓤) (𝓜 : Model 𝓤 𝓛
   abbrev G : Registers → Passed ks → Settled
   G h = at_all ks (F h)
 
-  pub thin-spec : (f : Name) (γ : Env) (k : Name) → Closed 𝓤 H (tables 𝓤 H 𝓜 𝓡 γ).C (tables 𝓤 H 𝓜 𝓡 γ).Λ f (thin ks k) → (r : Routine) → γ k ≡ r → Triple 𝓤 (𝓡.run r) (Callee 𝓛 ks G)
+  pub thin_spec : (f : Name) (γ : Env) (k : Name) → Closed 𝓤 H (tables 𝓤 H 𝓜 𝓡 γ).C (tables 𝓤 H 𝓜 𝓡 γ).Λ f (thin ks k) → (r : Routine) → γ k ≡ r → Triple 𝓤 (𝓡.run r) (Callee 𝓛 ks G)
       → Triple 𝓤 (𝓡.run (γ f)) (Thin 𝓛 ks G)
   unfolding tables_of
-  thin-spec f γ k unfolded r calls met =
+  thin_spec f γ k unfolded r calls met =
       entered 𝓤 H (Thin 𝓛 ks G) (tables 𝓤 H 𝓜 𝓡 γ).C (tables 𝓤 H 𝓜 𝓡 γ).Λ f (thin ks k) unfolded
-      (thin-meets 𝓛 ks G (tables_of 𝓤 H 𝓜 (tables 𝓤 H 𝓜 𝓡 γ)) k (cited 𝓤 H (Callee 𝓛 ks G) 𝓜 𝓡 γ k r calls met))
+      (thin_meets 𝓛 ks G (tables_of 𝓤 H 𝓜 (tables 𝓤 H 𝓜 𝓡 γ)) k (cited 𝓤 H (Callee 𝓛 ks G) 𝓜 𝓡 γ k r calls met))

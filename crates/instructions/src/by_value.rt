@@ -3,7 +3,7 @@
 // 04, REP.
 ghost use Rattle.std.specs.Prelude.{◌≡◌, true, false};
 ghost use Rattle.registers.specs.Over.{settled_of, over};
-ghost use Rattle.instructions.specs.Named.{modeBy, checkedBy};
+ghost use Rattle.instructions.specs.Named.{mode_by, checked_by};
 
 use answer::answer as answers;
 use answer::answer::Answer;
@@ -18,7 +18,7 @@ use registers::record::{Registers, Settled};
 // The answer, or 5 where the word has a flag outside 08D5. Op, mode and operand are in their limits by their
 // types, so that nothing else is left to judge.
 fn checked(flags: u16, a: Answer) -> Answer
-    ensures { result ≡ checkedBy flags a }
+    ensures { result ≡ checked_by flags a }
 {
     if Flags::is_flags(flags) {
         return a;
@@ -60,7 +60,7 @@ fn settle(regs: Registers, a: Answer, ax_taken: u16, dx_taken: u16) -> Settled
 
 // AX takes R, and DX stays.
 fn in_ax(regs: Registers, made: Answer) -> Settled
-    ensures { result ≡ settled_of regs (checkedBy regs.flags made) (checkedBy regs.flags made).r regs.dx }
+    ensures { result ≡ settled_of regs (checked_by regs.flags made) (checked_by regs.flags made).r regs.dx }
 {
     let a = checked(regs.flags, made);
     settle(regs, a, a.r, regs.dx)
@@ -108,7 +108,7 @@ pub fn das(regs: Registers) -> Settled
 
 // AL times the operand.
 pub fn mul8(regs: Registers, operand: u8, signed: bool, negate: bool) -> Settled
-    ensures { result ≡ over 0x10 (modeBy false signed negate) operand regs }
+    ensures { result ≡ over 0x10 (mode_by false signed negate) operand regs }
 {
     let table = parity::parity_table();
     let al = adjust::al(regs.ax);
@@ -119,7 +119,7 @@ pub fn mul8(regs: Registers, operand: u8, signed: bool, negate: bool) -> Settled
 
 // AX times the operand: the upper half goes into DX.
 pub fn mul16(regs: Registers, operand: u16, signed: bool, negate: bool) -> Settled
-    ensures { result ≡ over 0x10 (modeBy true signed negate) operand regs }
+    ensures { result ≡ over 0x10 (mode_by true signed negate) operand regs }
 {
     let table = parity::parity_table();
     let flags = Flags::from_word(regs.flags);
@@ -130,7 +130,7 @@ pub fn mul16(regs: Registers, operand: u16, signed: bool, negate: bool) -> Settl
 
 // AX by the operand: the quotient goes into AL and the remainder into AH.
 pub fn div8(regs: Registers, operand: u8, signed: bool, negate: bool) -> Settled
-    ensures { result ≡ over 0x11 (modeBy false signed negate) operand regs }
+    ensures { result ≡ over 0x11 (mode_by false signed negate) operand regs }
 {
     let table = parity::parity_table();
     let flags = Flags::from_word(regs.flags);
@@ -141,7 +141,7 @@ pub fn div8(regs: Registers, operand: u8, signed: bool, negate: bool) -> Settled
 
 // DX with AX below it by the operand: the quotient goes into AX and the remainder into DX.
 pub fn div16(regs: Registers, operand: u16, signed: bool, negate: bool) -> Settled
-    ensures { result ≡ over 0x11 (modeBy true signed negate) operand regs }
+    ensures { result ≡ over 0x11 (mode_by true signed negate) operand regs }
 {
     let table = parity::parity_table();
     let flags = Flags::from_word(regs.flags);

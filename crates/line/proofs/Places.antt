@@ -6,15 +6,15 @@ use mathlib.Core.{Path.◌≡◌, Path.ap, Path.◌∙◌, Bool.Bool, List.List,
 use Prim.Native.Nat.{ℕ, zero, suc, ◌+◌, ◌*◌, ◌<◌, min}
 use native.Mathlib.{Nat.zero-min, Nat.min-zero, Nat.suc-min-suc, Nat.not-suc-le-zero, Nat.le_of_suc-le-suc, Omega.arith}
 use lib.{ListN.length, ListN.get_or, ListN.take, ListN.drop, ListN.length-drop, Seq.take_at, Seq.drop_at, Seq.drop-drop, Seq.get_or-take, Seq.length-take-le}
-use Rattle.text.specs.Lines.{line_at, takes, lines_of, bytesIn}
-use Rattle.text.proofs.NextLine.{first-takes, no_line, first-line}
+use Rattle.text.specs.Lines.{line_at, takes, lines_of, bytes_in}
+use Rattle.text.proofs.NextLine.{first_takes, no_line, first_line}
 use Rattle.line.specs.{Run.Done, Run.done, Run.run_by, Placed.placed}
-use Rattle.line.proofs.Turns.{by-run}
+use Rattle.line.proofs.Turns.{by_run}
 
 pub places : (f : List ℕ → List ℕ) (room : ℕ) (e : Bool) (t o : List ℕ) → run_by f room e t o ≡ placed f (min room (length (lines_of e t))) e t o
 unfolding flat_map
 places f room e t o =
-    by-run f e (λ m t o d. d ≡ placed f (min m (length (lines_of e t))) e t o)
+    by_run f e (λ m t o d. d ≡ placed f (min m (length (lines_of e t))) e t o)
     (λ t o. simp zero-min)
     (λ m t o q. rw (no_line e t q) (simp (min-zero, zero-min)))
     (λ m t o d some h.
@@ -25,9 +25,9 @@ places f room e t o =
     let bytes : f line ++ (flat_map f (take k others) ++ drop (k * 19) (drop 19 o)) ≡ f line ++ flat_map f (take k others) ++ drop (suc k * 19) o =
     rw (append_assoc, drop-drop, past) in
     let lines : 1 + k ≡ suc k = omega arith in
-    let used : takes e t + min (bytesIn (take k others)) (length (drop (takes e t) t)) ≡ min (bytesIn (line ∷ take k others)) (length t) =
-    omega (arith, first-takes e t some, length-drop (takes e t) t) in
-    rw (h, first-line e t some, suc-min-suc) (λ i. record { bytes = bytes i; lines = lines i; used = used i }))
+    let used : takes e t + min (bytes_in (take k others)) (length (drop (takes e t) t)) ≡ min (bytes_in (line ∷ take k others)) (length t) =
+    omega (arith, first_takes e t some, length-drop (takes e t) t) in
+    rw (h, first_line e t some, suc-min-suc) (λ i. record { bytes = bytes i; lines = lines i; used = used i }))
     room t o
 
 module _ (f : List ℕ → List ℕ) (f-length : (line : List ℕ) → length (f line) ≡ 19) where
@@ -46,6 +46,6 @@ module _ (f : List ℕ → List ℕ) (f-length : (line : List ℕ) → length (f
   answer_at room e t o bytes lines used q k h =
       let m = min room (length (lines_of e t)) in
       let p = q ∙ places f room e t o in
-      let k-m : k < m = omega (arith, ap (λ (d : Done). d.lines) p) in
-      let k-there : k < length (take m (lines_of e t)) = omega (arith, length-take-le m (lines_of e t) (omega arith)) in
-      rw (ap (λ (d : Done). d.bytes) p) (at_place (take m (lines_of e t)) (drop (m * 19) o) k k-there) ∙ ap f (get_or-take m (lines_of e t) k [] k-m)
+      let k_m : k < m = omega (arith, ap (λ (d : Done). d.lines) p) in
+      let k_there : k < length (take m (lines_of e t)) = omega (arith, length-take-le m (lines_of e t) (omega arith)) in
+      rw (ap (λ (d : Done). d.bytes) p) (at_place (take m (lines_of e t)) (drop (m * 19) o) k k_there) ∙ ap f (get_or-take m (lines_of e t) k [] k_m)

@@ -8,12 +8,12 @@ use lib.Seq.{take_at, drop_at, drop-drop, length-take-le}
 use borrow.Author.Tests.{eq-eqb, ne_eqb}
 use borrow.Rule.Slice.PartMut.{put_mid}
 use Rattle.text.specs.Lines.{line_at, takes}
-use Rattle.text.proofs.ReadBack.{written-length}
+use Rattle.text.proofs.ReadBack.{written_length}
 use Rattle.line.specs.{One.text_of, Run.Done, Run.done, Run.after, Run.run_by}
 
-pub textOf-length : (line : List ℕ) → length (text_of line) ≡ 19
+pub text_of_length : (line : List ℕ) → length (text_of line) ≡ 19
 unfolding text_of
-textOf-length line = written-length _ _ _ _ _ _
+text_of_length line = written_length _ _ _ _ _ _
 
 -- ---- one line more, or none
 
@@ -38,10 +38,10 @@ module _ (f : List ℕ → List ℕ) where
     turn zero m t o q h = rw (stops (suc m) e t o q) (stop m t o q)
     turn (suc n) m t o q h = let some : 0 < takes e t = omega arith in rw (goes m e t o some) (go m t o _ some h)
 
-    pub by-run : (m : ℕ) (t o : List ℕ) → P m t o (run_by f m e t o)
+    pub by_run : (m : ℕ) (t o : List ℕ) → P m t o (run_by f m e t o)
     unfolding run_by
-    by-run zero t o = none t o
-    by-run (suc m) t o = turn (takes e t) m t o refl (by-run m (drop (takes e t) t) (drop 19 o))
+    by_run zero t o = none t o
+    by_run (suc m) t o = turn (takes e t) m t o refl (by_run m (drop (takes e t) t) (drop 19 o))
 
 -- ---- the loop: what it has done, then the run over the rest, is the whole run R
 
@@ -54,21 +54,21 @@ ended out p lines used h r = simp (h, take-append-drop, add-zero) at r
 
 -- the part from p on is lent, 19 long, and comes back as a
 module _ (out a : List ℕ) (p : ℕ) (fits : p + 19 ≤ length out) (long : length a ≡ 19) where
-  head-length : length (take p out ++ a) ≡ p + 19
-  head-length = length-append (take p out) a ∙ omega (arith, length-take-le p out (omega arith))
+  head_length : length (take p out ++ a) ≡ p + 19
+  head_length = length-append (take p out) a ∙ omega (arith, length-take-le p out (omega arith))
 
-  take-lent : take (p + 19) (put_mid p 19 out a) ≡ take p out ++ a
-  take-lent = rw (← append_assoc) (take_at (take p out ++ a) _ (p + 19) head-length)
+  take_lent : take (p + 19) (put_mid p 19 out a) ≡ take p out ++ a
+  take_lent = rw (← append_assoc) (take_at (take p out ++ a) _ (p + 19) head_length)
 
-  drop-lent : drop (p + 19) (put_mid p 19 out a) ≡ drop 19 (drop p out)
-  drop-lent = rw (← append_assoc) (drop_at (take p out ++ a) _ (p + 19) head-length)
+  drop_lent : drop (p + 19) (put_mid p 19 out a) ≡ drop 19 (drop p out)
+  drop_lent = rw (← append_assoc) (drop_at (take p out ++ a) _ (p + 19) head_length)
 
 -- a turn: a is what stands in the lent part, of k bytes, then
 module _ (f : List ℕ → List ℕ) (f-length : (line : List ℕ) → length (f line) ≡ 19) (text out a : List ℕ) (room lines used next k : ℕ) (e : Bool) (more : lines < room) (is-next : next ≡ used + takes e (drop used text)) (on : next ≡ used → ⊥) (fits : lines * 19 + 19 ≤ length out) (is-19 : k ≡ 19) (is-answer : a ≡ f (line_at text used) ++ drop 19 (take k (drop (lines * 19) out))) where
-  is-line : a ≡ f (line_at text used)
-  is-line =
-      let room-19 : length (take 19 (drop (lines * 19) out)) ≤ 19 = omega (arith, length-take-le 19 (drop (lines * 19) out) (simp length-drop (omega arith))) in
-      is-answer ∙ rw (is-19, drop_of_length-le (take 19 (drop (lines * 19) out)) room-19) (append-nil _)
+  is_line : a ≡ f (line_at text used)
+  is_line =
+      let room_19 : length (take 19 (drop (lines * 19) out)) ≤ 19 = omega (arith, length-take-le 19 (drop (lines * 19) out) (simp length-drop (omega arith))) in
+      is-answer ∙ rw (is-19, drop_of_length-le (take 19 (drop (lines * 19) out)) room_19) (append-nil _)
 
   pub again : {R : Done}
       → after (take (lines * 19) out) lines used (run_by f (room - lines) e (drop used text) (drop (lines * 19) out)) ≡ R
@@ -77,6 +77,6 @@ module _ (f : List ℕ → List ℕ) (f-length : (line : List ℕ) → length (f
       let p : (lines + 1) * 19 ≡ lines * 19 + 19 = omega arith in
       let one : room - lines ≡ suc (room - (lines + 1)) = omega arith in
       let some : 0 < takes e (drop used text) = omega arith in
-      let long : length a ≡ 19 = ap length is-line ∙ f-length _ in
-      rw (is-19, p, take-lent out a (lines * 19) fits long, drop-lent out a (lines * 19) fits long, is-next, ← drop-drop, is-line)
+      let long : length a ≡ 19 = ap length is_line ∙ f-length _ in
+      rw (is-19, p, take_lent out a (lines * 19) fits long, drop_lent out a (lines * 19) fits long, is-next, ← drop-drop, is_line)
       (sym (after-after (take (lines * 19) out) (f (line_at text used)) lines 1 used (takes e (drop used text)) (run_by f (room - (lines + 1)) e (drop (takes e (drop used text)) (drop used text)) (drop 19 (drop (lines * 19) out)))) ∙ (rw (one, goes f (room - (lines + 1)) e (drop used text) (drop (lines * 19) out) some) at r))

@@ -3,7 +3,7 @@ ghost use Rattle.std.specs.Prelude.{◌≡◌, ◌++◌, ◌≤◌, ◌<◌, len
 ghost use Rattle.flags.specs.Parity.{ParityTable};
 ghost use Rattle.answer.specs.Asked.{asked};
 ghost use Rattle.text.specs.Digits.{CapitalTable};
-ghost use Rattle.line.specs.One.{rawOf, answerBy, textBy, statusIn, answered};
+ghost use Rattle.line.specs.One.{raw_of, answer_by, text_by, status_in, answered};
 
 use answer::answer::Answer;
 use answer::{answer as answers, ask};
@@ -14,7 +14,7 @@ use text::{digits, fields, written};
 
 fn answer_fields(f: Fields, parity: &[u8; 256]) -> Answer
     requires { ParityTable parity.now }
-    ensures { result ≡ asked (rawOf f) }
+    ensures { result ≡ asked (raw_of f) }
 {
     let raw = Raw {
         op: f.op,
@@ -28,7 +28,7 @@ fn answer_fields(f: Fields, parity: &[u8; 256]) -> Answer
 
 fn answer_read(read: Read, parity: &[u8; 256]) -> Answer
     requires { ParityTable parity.now }
-    ensures { result ≡ answerBy read }
+    ensures { result ≡ answer_by read }
 {
     match read {
         Read::Fields(f) => answer_fields(f, parity),
@@ -42,7 +42,7 @@ pub fn write_answer(capitals: &[u8; 16], parity: &[u8; 256], read: Read, out: &m
     requires capital_table { CapitalTable capitals.now }
     requires parity_table { ParityTable parity.now }
     requires in_bounds { 19 ≤ length out.old }
-    ensures { (result ≡ (answerBy read).status) × (out.new ≡ textBy (answerBy read) ++ drop 19 out.old) }
+    ensures { (result ≡ (answer_by read).status) × (out.new ≡ text_by (answer_by read) ++ drop 19 out.old) }
 {
     let a = answer_read(read, parity);
     written::write(capitals, a.status, a.flags, a.steps, a.r, a.s, out);
@@ -51,7 +51,7 @@ pub fn write_answer(capitals: &[u8; 16], parity: &[u8; 256], read: Read, out: &m
 
 // 19 bytes are written on every status but 7, and nothing on 7.
 pub fn answer_line(line: &[u8], out: &mut [u8]) -> u8
-    ensures { (result ≡ statusIn (length out.old) line.now) × (out.new ≡ answered line.now out.old) }
+    ensures { (result ≡ status_in (length out.old) line.now) × (out.new ≡ answered line.now out.old) }
 {
     if out.len() < 19 {
         return 7;

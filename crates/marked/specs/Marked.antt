@@ -5,7 +5,7 @@ use Rattle.std.specs.Prelude.{List, [], ◌∷◌, ℕ}
 use Rattle.numbers.specs.Numbers.{bit, is_set}
 use Rattle.answer.specs.Asked.{Raw, raw, asked}
 use Rattle.answer.specs.declared.answer.Answer.{Answer}
-use Rattle.roads.specs.Told.{roadsTold}
+use Rattle.roads.specs.Told.{roads_told}
 
 -- an example; a request is op, mode, flags, X and Y
 pub record Marked : Type 0 where
@@ -14,36 +14,36 @@ pub record Marked : Type 0 where
   pub says : List ℕ
 
 -- of the answer to a request
-abbrev ofAnswer : (Answer → List ℕ) → Raw → List ℕ
-ofAnswer tells r = tells (asked r)
+abbrev of_answer : (Answer → List ℕ) → Raw → List ℕ
+of_answer tells r = tells (asked r)
 
 -- a result and the flags word
 abbrev result : Raw → List ℕ
-result = ofAnswer (λ a. a.status ∷ a.r ∷ a.flags ∷ [])
+result = of_answer (λ a. a.status ∷ a.r ∷ a.flags ∷ [])
 
 -- a product and its steps
 abbrev product : Raw → List ℕ
-product = ofAnswer (λ a. a.status ∷ a.r ∷ a.steps ∷ [])
+product = of_answer (λ a. a.status ∷ a.r ∷ a.steps ∷ [])
 
 -- quotient, remainder and steps
 abbrev divided : Raw → List ℕ
-divided = ofAnswer (λ a. a.status ∷ a.r ∷ a.s ∷ a.steps ∷ [])
+divided = of_answer (λ a. a.status ∷ a.r ∷ a.s ∷ a.steps ∷ [])
 
 -- the same, and the quotient's ones by a bit shifted out and by no borrow
-abbrev dividedByRoads : Raw → List ℕ
-dividedByRoads r = let a = asked r in a.status ∷ a.r ∷ a.s ∷ a.steps ∷ (roadsTold r.mode r.x r.y).roads
+abbrev divided_by_roads : Raw → List ℕ
+divided_by_roads r = let a = asked r in a.status ∷ a.r ∷ a.s ∷ a.steps ∷ (roads_told r.mode r.x r.y).roads
 
 -- a refusal, its flags word and its steps
 abbrev refused : Raw → List ℕ
-refused = ofAnswer (λ a. a.status ∷ a.flags ∷ a.steps ∷ [])
+refused = of_answer (λ a. a.status ∷ a.flags ∷ a.steps ∷ [])
 
 -- one flag, by its bit: C is 0 and Z is 6
 abbrev flag : ℕ → Raw → List ℕ
-flag k = ofAnswer (λ a. a.status ∷ bit (is_set k a.flags) ∷ [])
+flag k = of_answer (λ a. a.status ∷ bit (is_set k a.flags) ∷ [])
 
 -- a result and one flag
-abbrev resultAndFlag : ℕ → Raw → List ℕ
-resultAndFlag k = ofAnswer (λ a. a.status ∷ a.r ∷ bit (is_set k a.flags) ∷ [])
+abbrev result_and_flag : ℕ → Raw → List ℕ
+result_and_flag k = of_answer (λ a. a.status ∷ a.r ∷ bit (is_set k a.flags) ∷ [])
 
 -- the list
 abbrev pub marked : List Marked
@@ -64,8 +64,8 @@ marked =
     ∷ record { request = raw 0x10 0x00 0x0000 0xFF 0xFF; tells = product; says = 0 ∷ 0xFE01 ∷ 74 ∷ [] }
     -- M7 and M8: 00FF / FF is 1 r 0 in 80 steps, 0100 / C8 is 1 r 38 in 79. The one of the first came by no borrow, which takes a step more,
     -- that of the second by a bit shifted out
-    ∷ record { request = raw 0x11 0x00 0x0000 0x00FF 0xFF; tells = dividedByRoads; says = 0 ∷ 0x01 ∷ 0x00 ∷ 80 ∷ 0 ∷ 1 ∷ [] }
-    ∷ record { request = raw 0x11 0x00 0x0000 0x0100 0xC8; tells = dividedByRoads; says = 0 ∷ 0x01 ∷ 0x38 ∷ 79 ∷ 1 ∷ 0 ∷ [] }
+    ∷ record { request = raw 0x11 0x00 0x0000 0x00FF 0xFF; tells = divided_by_roads; says = 0 ∷ 0x01 ∷ 0x00 ∷ 80 ∷ 0 ∷ 1 ∷ [] }
+    ∷ record { request = raw 0x11 0x00 0x0000 0x0100 0xC8; tells = divided_by_roads; says = 0 ∷ 0x01 ∷ 0x38 ∷ 79 ∷ 1 ∷ 0 ∷ [] }
     -- M9: signed FF81 / 01 is 81 r 0 in 111 steps; FF80 / 01 is refused for sign range after 95, A P
     ∷ record { request = raw 0x11 0x02 0x0000 0xFF81 0x01; tells = divided; says = 0 ∷ 0x81 ∷ 0x00 ∷ 111 ∷ [] }
     ∷ record { request = raw 0x11 0x02 0x0000 0xFF80 0x01; tells = refused; says = 9 ∷ 0x0014 ∷ 95 ∷ [] }
@@ -73,8 +73,8 @@ marked =
     ∷ record { request = raw 0x11 0x02 0x0000 0xFFF9 0x02; tells = divided; says = 0 ∷ 0xFD ∷ 0xFF ∷ 106 ∷ [] }
     ∷ record { request = raw 0x11 0x02 0x0000 0xFFF5 0x03; tells = divided; says = 0 ∷ 0xFD ∷ 0xFE ∷ 106 ∷ [] }
     -- M11: AAA of 00FA with A clear is 0100, with Z set
-    ∷ record { request = raw 0x18 0x00 0x0000 0x00FA 0; tells = resultAndFlag 6; says = 0 ∷ 0x0100 ∷ 1 ∷ [] }
+    ∷ record { request = raw 0x18 0x00 0x0000 0x00FA 0; tells = result_and_flag 6; says = 0 ∷ 0x0100 ∷ 1 ∷ [] }
     -- M12: DAA of 9A with C clear: with A set A0 and C clear, with A clear 00 and C
-    ∷ record { request = raw 0x1B 0x00 0x0010 0x009A 0; tells = resultAndFlag 0; says = 0 ∷ 0x00A0 ∷ 0 ∷ [] }
-    ∷ record { request = raw 0x1B 0x00 0x0000 0x009A 0; tells = resultAndFlag 0; says = 0 ∷ 0x0000 ∷ 1 ∷ [] }
+    ∷ record { request = raw 0x1B 0x00 0x0010 0x009A 0; tells = result_and_flag 0; says = 0 ∷ 0x00A0 ∷ 0 ∷ [] }
+    ∷ record { request = raw 0x1B 0x00 0x0000 0x009A 0; tells = result_and_flag 0; says = 0 ∷ 0x0000 ∷ 1 ∷ [] }
     ∷ []

@@ -4,11 +4,11 @@
 -- Two factors of n bits give a product of 2n bits. C and O are set if its upper half holds digits of it: of MUL, if that half is not 0; of
 -- IMUL, if it is not the sign extension of the lower half. Else both are cleared. A, P, S and Z are undefined. Assumes nothing.
 use Rattle.std.specs.Prelude.{Bool, true, false, not, cond, ℕ, ◌-◌, ◌/◌, ◌%◌, ◌^◌, eqb}
-use Rattle.numbers.specs.Numbers.{topSet}
+use Rattle.numbers.specs.Numbers.{top_set}
 
 -- n bits that all repeat the lower half's top bit
 abbrev pub extension : ℕ → ℕ → ℕ
-extension n lower = cond (topSet n lower) (2 ^ n - 1) 0
+extension n lower = cond (top_set n lower) (2 ^ n - 1) 0
 
 -- the upper half of 2n bits does so
 abbrev pub extends : ℕ → ℕ → Bool

@@ -6,10 +6,10 @@ use native.Mathlib.{Nat.add-zero, Nat.mod-lt, Nat.mod-eq_of_lt, Nat.mod_self, Om
 use lib.{Arith.digits_div, Arith.digits_mod, Bits.bit_and, Dec.ltb, Pow.pow-add, Pow.pow_pos}
 use borrow.Author.Tests.{ltb-true, ltb-false}
 use Rattle.numbers.specs.Numbers.{bit, top, negated}
-use Rattle.numbers.proofs.{Masks.top-masked, Masks.top-unmasked, SignLaws.xor-true, SignLaws.xor-false}
+use Rattle.numbers.proofs.{Masks.top_masked, Masks.top_unmasked, SignLaws.xor_true, SignLaws.xor_false}
 use Rattle.alu.specs.{Result.ResultCoa, Sum.neg, Sum.sbb}
 use Rattle.alu.proofs.SumLaws.{neg-result}
-use Rattle.negate.specs.Negate.{Pair, Negate, pair, second, corNegate}
+use Rattle.negate.specs.Negate.{Pair, Negate, pair, second, cor_negate}
 
 -- two digits to the base m, taken from 0
 module _ (m a c : ℕ) (ha : a < m) (hc : c < m) where
@@ -46,10 +46,10 @@ module _ (m a c : ℕ) (ha : a < m) (hc : c < m) where
 
 -- the code's two subtractions make the pair
 pub pair_is : (n : ℕ) (p : Pair) {lower upper : ResultCoa} → p.tmpa < 2 ^ n → p.tmpc < 2 ^ n → lower ≡ neg n p.tmpc → upper ≡ sbb n 0 p.tmpa lower.carry
-    → ◌≡◌ {A = Pair} (record { tmpa = upper.result; tmpc = lower.result; negFlag = not p.negFlag; steps = p.steps + 5 }) (pair n p)
+    → ◌≡◌ {A = Pair} (record { tmpa = upper.result; tmpc = lower.result; neg_flag = not p.neg_flag; steps = p.steps + 5 }) (pair n p)
 unfolding pair sbb
 pair_is n p {lower} {upper} ha hc el eu =
-    λ i. record { tmpa = above i; tmpc = below i; negFlag = not p.negFlag; steps = p.steps + 5 }
+    λ i. record { tmpa = above i; tmpc = below i; neg_flag = not p.neg_flag; steps = p.steps + 5 }
   where
     m : ℕ
     m = 2 ^ n
@@ -60,15 +60,15 @@ pair_is n p {lower} {upper} ha hc el eu =
     c : ℕ
     c = p.tmpc
 
-    lower-is : lower.result ≡ (m - c) % m
-    lower-is = neg-result n c el
+    lower_is : lower.result ≡ (m - c) % m
+    lower_is = neg-result n c el
 
-    carry-is : lower.carry ≡ ltb 0 c
-    carry-is = ap (λ (r : ResultCoa). r.carry) el ∙ ap (λ (x : ℕ). ltb 0 x) (add-zero c)
+    carry_is : lower.carry ≡ ltb 0 c
+    carry_is = ap (λ (r : ResultCoa). r.carry) el ∙ ap (λ (x : ℕ). ltb 0 x) (add-zero c)
 
     upper_is : upper.result ≡ (m - (a + bit (ltb 0 c))) % m
     upper_is =
-        ap (λ (r : ResultCoa). r.result) eu ∙ ap (λ (s : Bool). (m + 0 - (a + bit s)) % m) carry-is ∙ ap (λ (x : ℕ). (x - (a + bit (ltb 0 c))) % m) (add-zero m)
+        ap (λ (r : ResultCoa). r.result) eu ∙ ap (λ (s : Bool). (m + 0 - (a + bit s)) % m) carry_is ∙ ap (λ (x : ℕ). (x - (a + bit (ltb 0 c))) % m) (add-zero m)
 
     digits : negated (n + n) (a * m + c) ≡ (m - (a + bit (ltb 0 c))) % m * m + (m - c) % m
     digits = ap (λ (x : ℕ). (x - (a * m + c)) % x) (pow-add 2 n n) ∙ from_zero m a c ha hc (ltb 0 c) refl
@@ -80,31 +80,31 @@ pair_is n p {lower} {upper} ha hc el eu =
     above = upper_is ∙ sym (ap (λ (x : ℕ). x / m) digits ∙ digits_div _ small)
 
     below : lower.result ≡ negated (n + n) (a * m + c) % m
-    below = lower-is ∙ sym (ap (λ (x : ℕ). x % m) digits ∙ digits_mod _ small)
+    below = lower_is ∙ sym (ap (λ (x : ℕ). x % m) digits ∙ digits_mod _ small)
 
 -- the second operand, by its top bit as the code tests it
 module _ (n b : ℕ) (p : Pair) (hn : 0 < n) (hb : b < 2 ^ n) where
   abbrev after : ℕ → Bool → Bool → ℕ → Negate
-  after b' carry flag steps = record { tmpa = p.tmpa; tmpb = b'; tmpc = p.tmpc; carry = carry; negFlag = flag; steps = steps }
+  after b' carry flag steps = record { tmpa = p.tmpa; tmpb = b'; tmpc = p.tmpc; carry = carry; neg_flag = flag; steps = steps }
 
-  pub second-negative : {r : ResultCoa} → (bit_and b (top n) ≡ 0 → ⊥) → r ≡ neg n b → after r.result true (not p.negFlag) (p.steps + 5) ≡ second n b p
+  pub second-negative : {r : ResultCoa} → (bit_and b (top n) ≡ 0 → ⊥) → r ≡ neg n b → after r.result true (not p.neg_flag) (p.steps + 5) ≡ second n b p
   unfolding second
   second-negative t e =
-      rw (top-masked n b hn hb t) (ap₂ (λ (x : ℕ) (s : Bool). after x true s (p.steps + 5)) (neg-result n b e) (sym (xor-true p.negFlag)))
+      rw (top_masked n b hn hb t) (ap₂ (λ (x : ℕ) (s : Bool). after x true s (p.steps + 5)) (neg-result n b e) (sym (xor_true p.neg_flag)))
 
-  pub second-positive : bit_and b (top n) ≡ 0 → after b false p.negFlag (p.steps + 6) ≡ second n b p
+  pub second_positive : bit_and b (top n) ≡ 0 → after b false p.neg_flag (p.steps + 6) ≡ second n b p
   unfolding second
-  second-positive t = rw (top-unmasked n b hn hb t) (ap (λ (s : Bool). after b false s (p.steps + 6)) (sym (xor-false p.negFlag)))
+  second_positive t = rw (top_unmasked n b hn hb t) (ap (λ (s : Bool). after b false s (p.steps + 6)) (sym (xor_false p.neg_flag)))
 
 -- entered at its head or past the pair
 module _ (n b : ℕ) (p : Pair) {r : Negate} where
-  pub skipped : {s : Bool} → s ≡ true → r ≡ second n b p → r ≡ corNegate n p b s
-  unfolding corNegate
+  pub skipped : {s : Bool} → s ≡ true → r ≡ second n b p → r ≡ cor_negate n p b s
+  unfolding cor_negate
   skipped e f = rw e f
 
-  pub run-through : {s : Bool} {q : Pair} → s ≡ false → q ≡ pair n p → r ≡ second n b q → r ≡ corNegate n p b s
-  unfolding corNegate
-  run-through e g f = rw e (f ∙ ap (second n b) g)
+  pub run_through : {s : Bool} {q : Pair} → s ≡ false → q ≡ pair n p → r ≡ second n b q → r ≡ cor_negate n p b s
+  unfolding cor_negate
+  run_through e g f = rw e (f ∙ ap (second n b) g)
 
 -- the pair costs five steps
 pub pair-steps : (n : ℕ) (p : Pair) {q : Pair} → q ≡ pair n p → q.steps ≡ p.steps + 5

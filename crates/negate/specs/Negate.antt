@@ -2,13 +2,13 @@
 -- Assumes nothing.
 use Rattle.std.specs.Prelude.{Bool, true, false, not, cond, ℕ, ◌+◌, ◌*◌, ◌/◌, ◌%◌, ◌^◌}
 use Rattle.std.specs.Bool.{xor}
-use Rattle.numbers.specs.Numbers.{topSet, negated}
+use Rattle.numbers.specs.Numbers.{top_set, negated}
 
 -- a pair of halves, tmpa above tmpc, with the flag that says whether a result is to be negated, and the steps so far
 pub record Pair : Type 0 where
   pub tmpa : ℕ
   pub tmpc : ℕ
-  pub negFlag : Bool
+  pub neg_flag : Bool
   pub steps : ℕ
 
 -- what NEGATE leaves: the pair, the second operand, its carry, the flag and the steps
@@ -17,7 +17,7 @@ pub record Negate : Type 0 where
   pub tmpb : ℕ
   pub tmpc : ℕ
   pub carry : Bool
-  pub negFlag : Bool
+  pub neg_flag : Bool
   pub steps : ℕ
 
 -- the pair's 2n bits are taken from 0 and the flag is flipped: 5 steps
@@ -26,7 +26,7 @@ pair n p =
     record {
       tmpa = negated (n + n) (p.tmpa * 2 ^ n + p.tmpc) / 2 ^ n;
       tmpc = negated (n + n) (p.tmpa * 2 ^ n + p.tmpc) % 2 ^ n;
-      negFlag = not p.negFlag;
+      neg_flag = not p.neg_flag;
       steps = p.steps + 5;
     }
 
@@ -35,14 +35,14 @@ unfoldable pub second : ℕ → ℕ → Pair → Negate
 second n b p =
     record {
       tmpa = p.tmpa;
-      tmpb = cond (topSet n b) (negated n b) b;
+      tmpb = cond (top_set n b) (negated n b) b;
       tmpc = p.tmpc;
-      carry = topSet n b;
-      negFlag = xor p.negFlag (topSet n b);
-      steps = p.steps + cond (topSet n b) 5 6;
+      carry = top_set n b;
+      neg_flag = xor p.neg_flag (top_set n b);
+      steps = p.steps + cond (top_set n b) 5 6;
     }
 
 -- skipped, the second operand alone; else the pair first
-unfoldable pub corNegate : ℕ → Pair → ℕ → Bool → Negate
-corNegate n p b true = second n b p
-corNegate n p b false = second n b (pair n p)
+unfoldable pub cor_negate : ℕ → Pair → ℕ → Bool → Negate
+cor_negate n p b true = second n b p
+cor_negate n p b false = second n b (pair n p)

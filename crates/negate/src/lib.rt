@@ -2,7 +2,7 @@
 // MartyPC. A pair of halves is negated unless the routine is entered past that; then the second
 // operand is made positive. The steps so far go in and come out.
 ghost use Rattle.std.specs.Prelude.{◌≡◌, ◌<◌};
-ghost use Rattle.negate.specs.Negate.{pair, second, corNegate};
+ghost use Rattle.negate.specs.Negate.{pair, second, cor_negate};
 ghost use Rattle.negate.specs.Views.{pair8, pair16, negate8, negate16};
 
 use alu::subtraction;
@@ -69,7 +69,7 @@ fn make_positive8(from: Pair8, tmpb: u8) -> Negate8
 
 pub fn cor_negate8(from: Pair8, tmpb: u8, skip: bool) -> Negate8
     requires { from.steps < 1000 }
-    ensures { negate8 result ≡ corNegate 8 (pair8 from) tmpb skip }
+    ensures { negate8 result ≡ cor_negate 8 (pair8 from) tmpb skip }
 {
     if skip {
         make_positive8(from, tmpb)
@@ -139,7 +139,7 @@ fn make_positive16(from: Pair16, tmpb: u16) -> Negate16
 
 pub fn cor_negate16(from: Pair16, tmpb: u16, skip: bool) -> Negate16
     requires { from.steps < 1000 }
-    ensures { negate16 result ≡ corNegate 16 (pair16 from) tmpb skip }
+    ensures { negate16 result ≡ cor_negate 16 (pair16 from) tmpb skip }
 {
     if skip {
         make_positive16(from, tmpb)

@@ -10,14 +10,14 @@ bit_le true = omega arith
 bit_le false = omega arith
 
 -- a flag is its digit tested
-pub flag-of : (b : Bool) {d : ℕ} → d ≡ bit b → eqb d 1 ≡ b
-flag-of true e = ap (λ (x : ℕ). eqb x 1) e
-flag-of false e = ap (λ (x : ℕ). eqb x 1) e
+pub flag_of : (b : Bool) {d : ℕ} → d ≡ bit b → eqb d 1 ≡ b
+flag_of true e = ap (λ (x : ℕ). eqb x 1) e
+flag_of false e = ap (λ (x : ℕ). eqb x 1) e
 
-digit-of : (d : ℕ) → d < 2 → bit (eqb d 1) ≡ d
-digit-of zero h = refl
-digit-of (suc zero) h = refl
-digit-of (suc (suc d)) h = absurd (omega arith)
+digit_of_lem : (d : ℕ) → d < 2 → bit (eqb d 1) ≡ d
+digit_of_lem zero h = refl
+digit_of_lem (suc zero) h = refl
+digit_of_lem (suc (suc d)) h = absurd (omega arith)
 
-pub bit-isSet : (k w : ℕ) → bit (is_set k w) ≡ w / 2 ^ k % 2
-bit-isSet k w = digit-of (w / 2 ^ k % 2) (mod-lt (w / 2 ^ k) (lit< tt))
+pub bit-is_set : (k w : ℕ) → bit (is_set k w) ≡ w / 2 ^ k % 2
+bit-is_set k w = digit_of_lem (w / 2 ^ k % 2) (mod-lt (w / 2 ^ k) (lit< tt))

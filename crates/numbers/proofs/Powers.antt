@@ -6,18 +6,18 @@ use lib.Pow.{pow-add, pow_pos}
 use Rattle.numbers.specs.Numbers.{top}
 
 -- twice the top bit is 2 ^ n
-pub top-twice : (n : ℕ) → 0 < n → top n * 2 ≡ 2 ^ n
-top-twice zero h = absurd (omega arith)
-top-twice (suc m) h = ap (λ (k : ℕ). 2 ^ k * 2) pred-suc ∙ sym (pow-suc 2 m)
+pub top_twice : (n : ℕ) → 0 < n → top n * 2 ≡ 2 ^ n
+top_twice zero h = absurd (omega arith)
+top_twice (suc m) h = ap (λ (k : ℕ). 2 ^ k * 2) pred_suc ∙ sym (pow-suc 2 m)
   where
-    pred-suc : suc m - 1 ≡ m
-    pred-suc = omega arith
+    pred_suc : suc m - 1 ≡ m
+    pred_suc = omega arith
 
 -- the top bit of 2n bits is that of their upper half
-pub top-double : (n : ℕ) → 0 < n → top (n + n) ≡ top n * 2 ^ n
-top-double n hn =
-    let a = top-twice n hn in
-    let b = top-twice (n + n) (omega arith) in
+pub top_double : (n : ℕ) → 0 < n → top (n + n) ≡ top n * 2 ^ n
+top_double n hn =
+    let a = top_twice n hn in
+    let b = top_twice (n + n) (omega arith) in
     let c : 2 ^ (n + n) ≡ top n * 2 * 2 ^ n = pow-add 2 n n ∙ ap (λ (x : ℕ). x * 2 ^ n) (sym a) in
     omega arith
 
@@ -26,11 +26,11 @@ pub product_lt : (n : ℕ) {x y : ℕ} → x < 2 ^ n → y < 2 ^ n → x * y < 2
 product_lt n {x} {y} hx hy = omega (arith, pow-add 2 n n, mul-le-mul_left x (le_of_lt hy), mul-lt-mul_of_pos_right hx (pow_pos n))
 
 -- the remainder of a number below twice m
-pub rest-small : (u m : ℕ) → u < m → u ≡ u % m
-rest-small u m h = sym (mod-eq_of_lt h)
+pub rest_small : (u m : ℕ) → u < m → u ≡ u % m
+rest_small u m h = sym (mod-eq_of_lt h)
 
-pub rest-large : (u m : ℕ) → u < m + m → m ≤ u → u ≡ u % m + m
-rest-large u m h i = by (u / m) (div-add-mod' u m)
+pub rest_large : (u m : ℕ) → u < m + m → m ≤ u → u ≡ u % m + m
+rest_large u m h i = by (u / m) (div-add-mod' u m)
   where
     rest : u % m < m
     rest = mod-lt u (omega arith)

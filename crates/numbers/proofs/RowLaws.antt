@@ -28,12 +28,12 @@ not_first k ((j, true) ∷ rows) n l e = eqb-false k j (not-true (eqb k j) (both
 not_first k ((j, false) ∷ rows) n l e = not_first k rows n (both (not (eqb k j)) (lacks k rows) l).1 e
 
 -- that status is the one that is given
-pub first-given : (rows : List (ℕ × Bool)) → distinct rows ≡ true → (k : ℕ) → first_of rows ≡ k ↔ Given k rows
-first-given [] d k = (sym, sym)
-first-given ((j, applies) ∷ rows) d k =
+pub first_given : (rows : List (ℕ × Bool)) → distinct rows ≡ true → (k : ℕ) → first_of rows ≡ k ↔ Given k rows
+first_given [] d k = (sym, sym)
+first_given ((j, applies) ∷ rows) d k =
     let c = both (not (eqb 0 j) && lacks j rows) (distinct rows) d in
     let b = both (not (eqb 0 j)) (lacks j rows) c.0 in
-    by (eqb k j) applies refl (first-given rows c.1 k) (not-true (eqb 0 j) b.0) b.1
+    by (eqb k j) applies refl (first_given rows c.1 k) (not-true (eqb 0 j) b.0) b.1
   where
     by : (same applies : Bool) → eqb k j ≡ same → first_of rows ≡ k ↔ Given k rows → eqb 0 j ≡ false → lacks j rows ≡ true
         → cond applies j (first_of rows) ≡ k ↔ cond same (applies ≡ true) ((applies ≡ false) × Given k rows)
@@ -49,10 +49,10 @@ abbrev pub numbers : List (ℕ × Bool) → List ℕ
 numbers [] = []
 numbers (row ∷ rows) = row.0 ∷ numbers rows
 
-pub first-one-of : (rows : List (ℕ × Bool)) → OneOf (first_of rows) (0 ∷ numbers rows)
-first-one-of [] = inl refl
-first-one-of ((j, true) ∷ rows) = inr (inl refl)
-first-one-of ((j, false) ∷ rows) = by (first-one-of rows)
+pub first_one_of : (rows : List (ℕ × Bool)) → OneOf (first_of rows) (0 ∷ numbers rows)
+first_one_of [] = inl refl
+first_one_of ((j, true) ∷ rows) = inr (inl refl)
+first_one_of ((j, false) ∷ rows) = by (first_one_of rows)
   where
     by : OneOf (first_of rows) (0 ∷ numbers rows) → OneOf (first_of rows) (0 ∷ j ∷ numbers rows)
     by (inl e) = inl e

@@ -22,16 +22,16 @@ abbrev pub top : ℕ → ℕ
 top n = 2 ^ (n - 1)
 
 -- x, of n bits, has its top bit set
-abbrev pub topSet : ℕ → ℕ → Bool
-topSet n x = leb (top n) x
+abbrev pub top_set : ℕ → ℕ → Bool
+top_set n x = leb (top n) x
 
 -- two's complement: a number with its top bit set stands for itself less 2 ^ n
 unfoldable pub signed : ℕ → ℕ → ℤ
-signed n x = cond (topSet n x) (sub_ℕ x (2 ^ n)) (pos x)
+signed n x = cond (top_set n x) (sub_ℕ x (2 ^ n)) (pos x)
 
 -- the signed numbers of n bits: from -2 ^ (n - 1) to 2 ^ (n - 1) - 1
-unfoldable pub fitsSigned : ℕ → ℤ → Bool
-fitsSigned n z = le_z (neg_ℤ (pos (top n))) z && lt_z z (pos (top n))
+unfoldable pub fits_signed : ℕ → ℤ → Bool
+fits_signed n z = le_z (neg_ℤ (pos (top n))) z && lt_z z (pos (top n))
 
 -- the number that n bits stand for, signed or not
 abbrev pub valued : Bool → ℕ → ℕ → ℤ

@@ -5,7 +5,7 @@ use native.Mathlib.{Numerals.add-one, Omega.arith}
 use lib.{ListN.length, ListN.drop, ListN.get_or, ListN.drop_of_length-le, Seq.drop-cons, Dec.leb, Dec.ltb, Dec.eqb}
 use borrow.Author.Tests.{leb-true, ltb-false, eqb-true, eq-eqb, ne_eqb, lt-ltb, le-ltb}
 use Rattle.numbers.specs.Numbers.{between}
-use Rattle.packed.specs.{Digits.is_packed, Digits.allPacked, Judge.judged, Halves.Operands, Sum.Operation, Packed.stringBy, Packed.left, Packed.leftBy, Packed.packedBy}
+use Rattle.packed.specs.{Digits.is_packed, Digits.all_packed, Judge.judged, Halves.Operands, Sum.Operation, Packed.string_by, Packed.left, Packed.left_by, Packed.packed_by}
 use Rattle.packed.specs.{declared.string.Outcome.TheVariants.Refused as NotDone, declared.judge.Refusal.Refusal}
 use Rattle.packed.specs.declared.judge.Refusal.TheVariants.{LengthsDiffer, Length, Digit, Room}
 use Rattle.packed.specs.declared.judge.Judged.TheVariants.{Admitted, Refused}
@@ -19,15 +19,15 @@ regrouped true true false true s = refl
 regrouped true true false false s = refl
 
 pub one_more : (x y : List ℕ) (i : ℕ) (packed : Bool) {a b : Bool} → i < length x → i < length y → a ≡ is_packed (get_or x i 0) → b ≡ is_packed (get_or y i 0)
-    → ((packed && a && b) && (allPacked (drop (i + 1) x) && allPacked (drop (i + 1) y))) ≡ (packed && (allPacked (drop i x) && allPacked (drop i y)))
-unfolding allPacked
+    → ((packed && a && b) && (all_packed (drop (i + 1) x) && all_packed (drop (i + 1) y))) ≡ (packed && (all_packed (drop i x) && all_packed (drop i y)))
+unfolding all_packed
 one_more x y i packed {a} {b} hx hy ea eb =
     rw (add-one i, drop-cons x i 0 hx, drop-cons y i 0 hy, ea, eb)
-    (regrouped packed (is_packed (get_or x i 0)) (is_packed (get_or y i 0)) (allPacked (drop (suc i) x)) (allPacked (drop (suc i) y)))
+    (regrouped packed (is_packed (get_or x i 0)) (is_packed (get_or y i 0)) (all_packed (drop (suc i) x)) (all_packed (drop (suc i) y)))
 
 -- all seen
-pub seen : (x y : List ℕ) (i : ℕ) (packed : Bool) → length x ≤ i → length y ≤ i → packed ≡ (packed && (allPacked (drop i x) && allPacked (drop i y)))
-unfolding allPacked
+pub seen : (x y : List ℕ) (i : ℕ) (packed : Bool) → length x ≤ i → length y ≤ i → packed ≡ (packed && (all_packed (drop i x) && all_packed (drop i y)))
+unfolding all_packed
 seen x y i packed hx hy = rw (drop_of_length-le x hx, drop_of_length-le y hy) (sym (and-true packed))
 
 -- the four tests in their order, each by what it comes to
@@ -40,27 +40,27 @@ module _ (x y : List ℕ) (room : ℕ) where
   unfolding judged
   misfit h t = rw (eq-eqb (length x) (length y) h, t)
 
-  pub unpacked : length x ≡ length y → between 1 32 (length x) ≡ true → (allPacked x && allPacked y) ≡ false → Refused Digit ≡ judged x y room
+  pub unpacked : length x ≡ length y → between 1 32 (length x) ≡ true → (all_packed x && all_packed y) ≡ false → Refused Digit ≡ judged x y room
   unfolding judged
   unpacked h t u = rw (eq-eqb (length x) (length y) h, t, u)
 
-  pub roomless : length x ≡ length y → between 1 32 (length x) ≡ true → (allPacked x && allPacked y) ≡ true → room < length x → Refused Room ≡ judged x y room
+  pub roomless : length x ≡ length y → between 1 32 (length x) ≡ true → (all_packed x && all_packed y) ≡ true → room < length x → Refused Room ≡ judged x y room
   unfolding judged
   roomless h t u r = rw (eq-eqb (length x) (length y) h, t, u, lt-ltb room (length x) r)
 
-  pub admits : length x ≡ length y → between 1 32 (length x) ≡ true → (allPacked x && allPacked y) ≡ true → length x ≤ room → Admitted ≡ judged x y room
+  pub admits : length x ≡ length y → between 1 32 (length x) ≡ true → (all_packed x && all_packed y) ≡ true → length x ≤ room → Admitted ≡ judged x y room
   unfolding judged
   admits h t u r = rw (eq-eqb (length x) (length y) h, t, u, le-ltb room (length x) r)
 
   -- what is known of operands that are admitted
   pub admitted : judged x y room ≡ Admitted → Operands x y × (length x ≤ room)
   unfolding judged
-  admitted = by (eqb (length x) (length y)) (between 1 32 (length x)) (allPacked x && allPacked y) (ltb room (length x)) refl refl refl refl
+  admitted = by (eqb (length x) (length y)) (between 1 32 (length x)) (all_packed x && all_packed y) (ltb room (length x)) refl refl refl refl
     where
       never : {why : Refusal} {A : Type 0} → Refused why ≡ Admitted → A
       never e = let z : ◌≡◌ {A = ℕ} 0 1 = cc in absurd (omega arith)
 
-      by : (p q r s : Bool) → eqb (length x) (length y) ≡ p → between 1 32 (length x) ≡ q → (allPacked x && allPacked y) ≡ r → ltb room (length x) ≡ s
+      by : (p q r s : Bool) → eqb (length x) (length y) ≡ p → between 1 32 (length x) ≡ q → (all_packed x && all_packed y) ≡ r → ltb room (length x) ≡ s
           → cond (not p) (Refused LengthsDiffer) (cond (not q) (Refused Length) (cond (not r) (Refused Digit) (cond s (Refused Room) Admitted))) ≡ Admitted
           → Operands x y × (length x ≤ room)
       by false q r s p0 p1 p2 p3 e = never e
@@ -68,18 +68,18 @@ module _ (x y : List ℕ) (room : ℕ) where
       by true true false s p0 p1 p2 p3 e = never e
       by true true true true p0 p1 p2 p3 e = never e
       by true true true false p0 p1 p2 p3 e =
-          let both = (and-eq-true_iff (allPacked x) (allPacked y)).0 p2 in (
+          let both = (and-eq-true_iff (all_packed x) (all_packed y)).0 p2 in (
             record {
               alike = eqb-true (length x) (length y) p0;
               few = leb-true (length x) 32 ((and-eq-true_iff (leb 1 (length x)) (leb (length x) 32)).0 p1).1;
-              packedX = both.0;
-              packedY = both.1;
+              packed_x = both.0;
+              packed_y = both.1;
             },
             ltb-false room (length x) p3,
           )
 
 -- a refusal leaves the buffer as it was
 pub refuses : (op : Operation) (x y : List ℕ) (c : Bool) (out : List ℕ) {why : Refusal} → judged x y (length out) ≡ Refused why
-    → left (NotDone why) out ≡ packedBy op x y c out
-unfolding packedBy
-refuses op x y c out e = λ i. leftBy (sym e i) (stringBy op x y c) out
+    → left (NotDone why) out ≡ packed_by op x y c out
+unfolding packed_by
+refuses op x y c out e = λ i. left_by (sym e i) (string_by op x y c) out

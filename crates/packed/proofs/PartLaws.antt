@@ -5,8 +5,8 @@ use native.Mathlib.{Nat.mod-lt, Omega.arith}
 use lib.{Arith.mod-mul, Dec.leb, Dec.ltb, Dec.lit<}
 use borrow.Author.Tests.{leb-true, leb-false, le-leb, lt-leb, ltb-true, ltb-false, lt-ltb, le-ltb}
 use Rattle.numbers.specs.Numbers.{bit}
-use Rattle.numbers.proofs.{Powers.rest-small, Powers.rest-large, SignedLaws.same_test, BitLaws.bit_le}
-use Rattle.packed.specs.Sum.{Worked, Operation, plus, minus, operationOf}
+use Rattle.numbers.proofs.{Powers.rest_small, Powers.rest_large, SignedLaws.same_test, BitLaws.bit_le}
+use Rattle.packed.specs.Sum.{Worked, Operation, plus, minus, operation_of}
 
 -- a number of the rest above two digits, and the rest's carry
 abbrev pub above : Worked → Worked → Worked
@@ -20,28 +20,28 @@ pub record ByParts (op : Operation) : Type 0 where
       → op (m * 100) (a + x * 100) (b + y * 100) c ≡ above (op 100 a b c) (op m x y (op 100 a b c).carry)
 
 -- a number below m * 100, from its two last digits and the rest
-number-above : (m t : ℕ) {two rest : ℕ} → 0 < m → t % 100 ≡ two → t / 100 ≡ rest → t % (m * 100) ≡ two + rest % m * 100
-number-above m t h e d = mod-mul t h (lit< tt) ∙ (λ i. (d i % m) * 100 + e i) ∙ omega arith
+number_above : (m t : ℕ) {two rest : ℕ} → 0 < m → t % 100 ≡ two → t / 100 ≡ rest → t % (m * 100) ≡ two + rest % m * 100
+number_above m t h e d = mod-mul t h (lit< tt) ∙ (λ i. (d i % m) * 100 + e i) ∙ omega arith
 
 -- a carry out of numbers below m is one m of their sum
 pub carried : (m s : ℕ) → s < m + m → s % m + bit (leb m s) * m ≡ s
 carried m s h = by (leb m s) refl
   where
     by : (k : Bool) → leb m s ≡ k → s % m + bit k * m ≡ s
-    by true e = omega (arith, rest-large s m h (leb-true m s e))
-    by false e = omega (arith, rest-small s m (leb-false m s e))
+    by true e = omega (arith, rest_large s m h (leb-true m s e))
+    by false e = omega (arith, rest_small s m (leb-false m s e))
 
 -- and a borrow one m that is lent
 pub borrowed : (m a t : ℕ) → a < m → t ≤ m → (m + a - t) % m + t ≡ a + bit (ltb a t) * m
 borrowed m a t ha ht = by (ltb a t) refl
   where
     by : (k : Bool) → ltb a t ≡ k → (m + a - t) % m + t ≡ a + bit k * m
-    by true e = let l = ltb-true a t e in omega (arith, rest-small (m + a - t) m (omega arith))
-    by false e = let l = ltb-false a t e in omega (arith, rest-large (m + a - t) m (omega arith) (omega arith))
+    by true e = let l = ltb-true a t e in omega (arith, rest_small (m + a - t) m (omega arith))
+    by false e = let l = ltb-false a t e in omega (arith, rest_large (m + a - t) m (omega arith) (omega arith))
 
 module _ (m a b x y : ℕ) (c : Bool) (ha : a < 100) (hb : b < 100) (hy : y < m) where
-  sum-parts : plus (m * 100) (a + x * 100) (b + y * 100) c ≡ above (plus 100 a b c) (plus m x y (leb 100 (a + b + bit c)))
-  sum-parts =
+  sum_parts : plus (m * 100) (a + x * 100) (b + y * 100) c ≡ above (plus 100 a b c) (plus m x y (leb 100 (a + b + bit c)))
+  sum_parts =
       let one = bit_le c in
       let k = bit (leb 100 (a + b + bit c)) in
       let hundred = carried 100 (a + b + bit c) (omega arith) in
@@ -49,12 +49,12 @@ module _ (m a b x y : ℕ) (c : Bool) (ha : a < 100) (hb : b < 100) (hy : y < m)
       let two : t % 100 ≡ (a + b + bit c) % 100 = omega arith in
       let rest : t / 100 ≡ x + y + k = omega arith in
       λ i. record {
-        number = number-above m t (omega arith) two rest i;
+        number = number_above m t (omega arith) two rest i;
         carry = same_test (leb (m * 100) t) (leb m (x + y + k)) (λ h. le-leb m (x + y + k) (omega (arith, leb-true (m * 100) t h))) (λ h. lt-leb m (x + y + k) (omega (arith, leb-false (m * 100) t h))) i;
       }
 
-  difference-parts : minus (m * 100) (a + x * 100) (b + y * 100) c ≡ above (minus 100 a b c) (minus m x y (ltb a (b + bit c)))
-  difference-parts =
+  difference_parts : minus (m * 100) (a + x * 100) (b + y * 100) c ≡ above (minus 100 a b c) (minus m x y (ltb a (b + bit c)))
+  difference_parts =
       let one = bit_le c in
       let k = bit (ltb a (b + bit c)) in
       let lent = borrowed 100 a (b + bit c) ha (omega arith) in
@@ -62,18 +62,18 @@ module _ (m a b x y : ℕ) (c : Bool) (ha : a < 100) (hb : b < 100) (hy : y < m)
       let two : t % 100 ≡ (100 + a - (b + bit c)) % 100 = omega arith in
       let rest : t / 100 ≡ m + x - (y + k) = omega arith in
       λ i. record {
-        number = number-above m t (omega arith) two rest i;
+        number = number_above m t (omega arith) two rest i;
         carry = same_test (ltb (a + x * 100) (b + y * 100 + bit c)) (ltb x (y + k)) (λ h. lt-ltb x (y + k) (omega (arith, ltb-true (a + x * 100) (b + y * 100 + bit c) h))) (λ h. le-ltb x (y + k) (omega (arith, ltb-false (a + x * 100) (b + y * 100 + bit c) h))) i;
       }
 
 -- so both are done by parts
-pub by_parts : (subtract : Bool) → ByParts (operationOf subtract)
-by_parts false = record { below = λ m x y c h. mod-lt (x + y + bit c) h; none = out; parts = sum-parts }
+pub by_parts : (subtract : Bool) → ByParts (operation_of subtract)
+by_parts false = record { below = λ m x y c h. mod-lt (x + y + bit c) h; none = out; parts = sum_parts }
   where
     out : (c : Bool) → leb 1 (0 + 0 + bit c) ≡ c
     out true = refl
     out false = refl
-by_parts true = record { below = λ m x y c h. mod-lt (m + x - (y + bit c)) h; none = out; parts = difference-parts }
+by_parts true = record { below = λ m x y c h. mod-lt (m + x - (y + bit c)) h; none = out; parts = difference_parts }
   where
     out : (c : Bool) → ltb 0 (0 + bit c) ≡ c
     out true = refl

@@ -8,8 +8,8 @@ use borrow.Author.Tests.{ltb-true, ltb-false, lt-ltb, le-ltb}
 use Rattle.numbers.proofs.SignedLaws.{same_test}
 use Rattle.packed.specs.Digits.{byte_of}
 
-byte-by : (u v : ℕ) → u ≤ 9 → v ≤ 9 → byte_of (u * 10 + v) ≡ u * 16 + v
-byte-by u v hu hv =
+byte_by_lem : (u v : ℕ) → u ≤ 9 → v ≤ 9 → byte_of (u * 10 + v) ≡ u * 16 + v
+byte_by_lem u v hu hv =
     let upper : (u * 10 + v) / 10 ≡ u = omega arith in
     let lower : (u * 10 + v) % 10 ≡ v = omega arith in
     λ i. upper i * 16 + lower i
@@ -20,7 +20,7 @@ pub summed : (s t p q u v : ℕ) → u ≤ 9 → v ≤ 9 → s + p * 6 + q * 96 
 summed s t p q u v hu hv e d =
     let number : t % 100 ≡ u * 10 + v = omega arith in
     let byte : (s % 256 + (p * 6 + q * 96)) % 256 ≡ u * 16 + v = omega arith in
-    byte ∙ sym (byte-by u v hu hv) ∙ ap byte_of (sym number)
+    byte ∙ sym (byte_by_lem u v hu hv) ∙ ap byte_of (sym number)
 
 -- a difference made of w less d, by bytes: q times 256 were lent and come back
 lent : (w d q k : ℕ) → d ≤ 256 → k < 256 → 256 + w ≡ d + k + (2 - q) * 256 → (256 + w % 256 - d) % 256 ≡ k
@@ -33,7 +33,7 @@ pub taken : (x y tx ty p q u v : ℕ) → u ≤ 9 → v ≤ 9 → p ≤ 1 → q 
     → (256 + (256 + x - y) % 256 - (p * 6 + q * 96)) % 256 ≡ byte_of ((100 + tx - ty) % 100)
 taken x y tx ty p q u v hu hv hp hq hy e d =
     let number : (100 + tx - ty) % 100 ≡ u * 10 + v = omega arith in
-    lent (256 + x - y) (p * 6 + q * 96) q (u * 16 + v) (omega arith) (omega arith) (omega arith) ∙ sym (byte-by u v hu hv) ∙ ap byte_of (sym number)
+    lent (256 + x - y) (p * 6 + q * 96) q (u * 16 + v) (omega arith) (omega arith) (omega arith) ∙ sym (byte_by_lem u v hu hv) ∙ ap byte_of (sym number)
 
 -- bytes of two digits are in the order of their numbers
 pub in_order : (a b u v : ℕ) → u ≤ 9 → v ≤ 10 → ltb (a * 16 + u) (b * 16 + v) ≡ ltb (a * 10 + u) (b * 10 + v)

@@ -1,7 +1,7 @@
 -- What is refused, and the numbers of the refusals. Assumes nothing.
 use Rattle.std.specs.Prelude.{cond, not, ◌&&◌, List, ℕ, ltb, eqb, length}
 use Rattle.numbers.specs.Numbers.{between}
-use Rattle.packed.specs.Digits.{allPacked}
+use Rattle.packed.specs.Digits.{all_packed}
 use Rattle.packed.specs.declared.judge.Refusal.{Refusal}
 use Rattle.packed.specs.declared.judge.Refusal.TheVariants.{LengthsDiffer, Length, Digit, Room}
 use Rattle.packed.specs.declared.judge.Judged.{Judged}
@@ -15,11 +15,11 @@ judged x y room =
     (Refused LengthsDiffer)
     (cond (not (between 1 32 (length x)))
     (Refused Length)
-    (cond (not (allPacked x && allPacked y)) (Refused Digit) (cond (ltb room (length x)) (Refused Room) Admitted)))
+    (cond (not (all_packed x && all_packed y)) (Refused Digit) (cond (ltb room (length x)) (Refused Room) Admitted)))
 
 -- the number of each
-abbrev pub refusalStatus : Refusal → ℕ
-refusalStatus LengthsDiffer = 20
-refusalStatus Length = 21
-refusalStatus Digit = 22
-refusalStatus Room = 23
+abbrev pub refusal_status : Refusal → ℕ
+refusal_status LengthsDiffer = 20
+refusal_status Length = 21
+refusal_status Digit = 22
+refusal_status Room = 23

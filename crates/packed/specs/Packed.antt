@@ -22,8 +22,8 @@ abbrev pub behind : List ℕ → Strung → Strung
 behind bytes rest = strung (bytes ++ rest.bytes) rest.carry
 
 -- the operation on the numbers of 2 l digits that the operands, of l bytes each, stand for
-unfoldable pub stringBy : Operation → List ℕ → List ℕ → Bool → Strung
-stringBy op x y c =
+unfoldable pub string_by : Operation → List ℕ → List ℕ → Bool → Strung
+string_by op x y c =
     let worked = op (10 ^ (2 * length x)) (number_of x) (number_of y) c in strung (bytes_of (length x) worked.number) worked.carry
 
 -- what is left: the outcome, and the bytes of the buffer
@@ -36,10 +36,10 @@ abbrev pub left : Outcome → List ℕ → Left
 left outcome buffer = record { outcome = outcome; buffer = buffer }
 
 -- the result's bytes, and what stood after them; a refusal writes nothing
-abbrev pub leftBy : Judged → Strung → List ℕ → Left
-leftBy Admitted result out = left (Done result.carry) (result.bytes ++ drop (length result.bytes) out)
-leftBy (Refused why) result out = left (NotDone why) out
+abbrev pub left_by : Judged → Strung → List ℕ → Left
+left_by Admitted result out = left (Done result.carry) (result.bytes ++ drop (length result.bytes) out)
+left_by (Refused why) result out = left (NotDone why) out
 
 -- operands, carry or borrow, and the buffer as it was
-unfoldable pub packedBy : Operation → List ℕ → List ℕ → Bool → List ℕ → Left
-packedBy op x y c out = leftBy (judged x y (length out)) (stringBy op x y c) out
+unfoldable pub packed_by : Operation → List ℕ → List ℕ → Bool → List ℕ → Left
+packed_by op x y c out = left_by (judged x y (length out)) (string_by op x y c) out

@@ -20,6 +20,6 @@ abbrev pub minus : Operation
 minus m x y c = record { number = (m + x - (y + bit c)) % m; carry = ltb x (y + bit c) }
 
 -- subtraction, or where it is false addition
-abbrev pub operationOf : Bool → Operation
-operationOf false = plus
-operationOf true = minus
+abbrev pub operation_of : Bool → Operation
+operation_of false = plus
+operation_of true = minus

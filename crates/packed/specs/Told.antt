@@ -2,20 +2,20 @@
 use Rattle.std.specs.Prelude.{Bool, List, ℕ}
 use Rattle.numbers.specs.Numbers.{bit}
 use Rattle.packed.specs.Sum.{Operation}
-use Rattle.packed.specs.Judge.{refusalStatus}
-use Rattle.packed.specs.Packed.{packedBy}
+use Rattle.packed.specs.Judge.{refusal_status}
+use Rattle.packed.specs.Packed.{packed_by}
 use Rattle.packed.specs.declared.string.Outcome.{Outcome}
 use Rattle.packed.specs.declared.string.Outcome.TheVariants.{Done, Refused}
 
 -- 0, or the number of the refusal
-abbrev pub statusOf : Outcome → ℕ
-statusOf (Done carry) = 0
-statusOf (Refused why) = refusalStatus why
+abbrev pub status_of : Outcome → ℕ
+status_of (Done carry) = 0
+status_of (Refused why) = refusal_status why
 
 -- what the byte for the carry or borrow holds; a refusal leaves it as it was
-abbrev pub carryLeft : Outcome → ℕ → ℕ
-carryLeft (Done carry) was = bit carry
-carryLeft (Refused why) was = was
+abbrev pub carry_left : Outcome → ℕ → ℕ
+carry_left (Done carry) was = bit carry
+carry_left (Refused why) was = was
 
 -- the status, and what is left in the buffer and in that byte
 pub record Told : Type 0 where
@@ -28,6 +28,6 @@ abbrev pub told : ℕ → List ℕ → ℕ → Told
 told status buffer carry = record { status = status; buffer = buffer; carry = carry }
 
 -- of an operation on packed strings
-abbrev pub toldBy : Operation → List ℕ → List ℕ → Bool → List ℕ → ℕ → Told
-toldBy op x y c out was =
-    let done = packedBy op x y c out in told (statusOf done.outcome) done.buffer (carryLeft done.outcome was)
+abbrev pub told_by : Operation → List ℕ → List ℕ → Bool → List ℕ → ℕ → Told
+told_by op x y c out was =
+    let done = packed_by op x y c out in told (status_of done.outcome) done.buffer (carry_left done.outcome was)

@@ -2,8 +2,8 @@
 ghost use Rattle.std.specs.Prelude.{◌≡◌, true};
 ghost use Rattle.flags.specs.Parity.{ParityTable};
 ghost use Rattle.packed.specs.Digits.{is_packed};
-ghost use Rattle.packed.specs.Sum.{plus, minus, operationOf};
-ghost use Rattle.packed.specs.Byte.{byteBy, flagsAfter, ofAdjusted};
+ghost use Rattle.packed.specs.Sum.{plus, minus, operation_of};
+ghost use Rattle.packed.specs.Byte.{byte_by, flags_after, of_adjusted};
 
 use alu::result::ResultCoa8;
 use alu::{addition, subtraction};
@@ -19,7 +19,7 @@ pub struct Byte {
 
 // C, O and A as ADC or SBB left them. The adjust reads A and C alone, and sets all six.
 fn flags_after(made: ResultCoa8) -> Flags
-    ensures { result ≡ flagsAfter made }
+    ensures { result ≡ flags_after made }
 {
     Flags {
         carry: made.carry,
@@ -33,7 +33,7 @@ fn flags_after(made: ResultCoa8) -> Flags
 
 // What the adjust leaves in AL and C.
 fn of_adjusted(adjusted: Adjusted) -> Byte
-    ensures { result ≡ ofAdjusted adjusted }
+    ensures { result ≡ of_adjusted adjusted }
 {
     Byte {
         byte: adjust::al(adjusted.ax),
@@ -44,7 +44,7 @@ fn of_adjusted(adjusted: Adjusted) -> Byte
 fn add_byte(x: u8, y: u8, carry: bool, table: &[u8; 256]) -> Byte
     requires parity_table { ParityTable table.now }
     requires x_value { (is_packed x ≡ true) × (is_packed y ≡ true) }
-    ensures { result ≡ byteBy plus x y carry }
+    ensures { result ≡ byte_by plus x y carry }
 {
     let sum = addition::alu_adc8(x, y, carry);
     of_adjusted(decimal::daa(sum.result as u16, flags_after(sum), table))
@@ -53,7 +53,7 @@ fn add_byte(x: u8, y: u8, carry: bool, table: &[u8; 256]) -> Byte
 fn subtract_byte(x: u8, y: u8, borrow: bool, table: &[u8; 256]) -> Byte
     requires parity_table { ParityTable table.now }
     requires x_value { (is_packed x ≡ true) × (is_packed y ≡ true) }
-    ensures { result ≡ byteBy minus x y borrow }
+    ensures { result ≡ byte_by minus x y borrow }
 {
     let difference = subtraction::alu_sbb8(x, y, borrow);
     of_adjusted(decimal::das(difference.result as u16, flags_after(difference), table))
@@ -62,7 +62,7 @@ fn subtract_byte(x: u8, y: u8, borrow: bool, table: &[u8; 256]) -> Byte
 pub fn work_byte(subtract: bool, x: u8, y: u8, carry: bool, table: &[u8; 256]) -> Byte
     requires parity_table { ParityTable table.now }
     requires x_value { (is_packed x ≡ true) × (is_packed y ≡ true) }
-    ensures { result ≡ byteBy (operationOf subtract) x y carry }
+    ensures { result ≡ byte_by (operation_of subtract) x y carry }
 {
     if subtract {
         subtract_byte(x, y, carry, table)

@@ -1,8 +1,8 @@
 // What is refused, before a byte is written.
 ghost use Rattle.std.specs.Prelude.{◌≡◌, ◌&&◌, length};
 ghost use Rattle.numbers.specs.Numbers.{between};
-ghost use Rattle.packed.specs.Digits.{is_packed, allPacked};
-ghost use Rattle.packed.specs.Judge.{judged, refusalStatus};
+ghost use Rattle.packed.specs.Digits.{is_packed, all_packed};
+ghost use Rattle.packed.specs.Judge.{judged, refusal_status};
 
 // In the order in which they are tested: 20 to 23.
 #[derive(Drop)]
@@ -38,7 +38,7 @@ fn is_packed(byte: u8) -> bool
 // out of the loop the compiler takes many at a time.
 fn both_packed(x: &[u8], y: &[u8]) -> bool
     requires { length x.now ≡ length y.now }
-    ensures { result ≡ allPacked x.now && allPacked y.now }
+    ensures { result ≡ all_packed x.now && all_packed y.now }
 {
     let mut packed = true;
     let mut i = 0;
@@ -68,7 +68,7 @@ pub fn judge(x: &[u8], y: &[u8], room: usize) -> Judged
 }
 
 pub fn refusal_status(refusal: Refusal) -> u8
-    ensures { result ≡ refusalStatus refusal }
+    ensures { result ≡ refusal_status refusal }
 {
     match refusal {
         Refusal::LengthsDiffer => 20,

@@ -1,8 +1,8 @@
 // Strings of bytes.
 ghost use Rattle.std.specs.Prelude.{◌≡◌, ◌≤◌, length, drop};
-ghost use Rattle.packed.specs.Sum.{plus, minus, operationOf};
+ghost use Rattle.packed.specs.Sum.{plus, minus, operation_of};
 ghost use Rattle.packed.specs.Judge.{judged};
-ghost use Rattle.packed.specs.Packed.{strung, left, packedBy};
+ghost use Rattle.packed.specs.Packed.{strung, left, packed_by};
 ghost use Rattle.packed.specs.Halves.{Operands, half_of, WorkSpace, Made, chosen, onto};
 
 use crate::judge::{Judged, Refusal};
@@ -21,7 +21,7 @@ pub enum Outcome {
 fn make_both(subtract: bool, x: &[u8], y: &[u8], bytes: &mut [u8], halves: &mut [u8])
     requires operands { Operands x.now y.now }
     requires work_space { WorkSpace bytes.old halves.old }
-    ensures { Made (operationOf subtract) x.now y.now (length x.now) bytes.new halves.new }
+    ensures { Made (operation_of subtract) x.now y.now (length x.now) bytes.new halves.new }
 {
     let table = parity::parity_table();
     let mut i = 0;
@@ -57,7 +57,7 @@ fn choose(bytes: &[u8], halves: &[u8], size: usize, carry: bool, out: &mut [u8])
 
 fn work_string(subtract: bool, x: &[u8], y: &[u8], carry: bool, out: &mut [u8]) -> bool
     requires { judged x.now y.now (length out.old) ≡ Judged.Admitted }
-    ensures { left (Outcome.Done result) out.new ≡ packedBy (operationOf subtract) x.now y.now carry out.old }
+    ensures { left (Outcome.Done result) out.new ≡ packed_by (operation_of subtract) x.now y.now carry out.old }
 {
     let mut bytes = [0u8; 64];
     let mut halves = [0u8; 64];
@@ -68,7 +68,7 @@ fn work_string(subtract: bool, x: &[u8], y: &[u8], carry: bool, out: &mut [u8]) 
 // The sum goes into `out`; bytes past the operands' length stay as they were. The choice stands here and in
 // `subtract`, so that each is compiled for its own operation.
 pub fn add(x: &[u8], y: &[u8], carry: bool, out: &mut [u8]) -> Outcome
-    ensures { left result out.new ≡ packedBy plus x.now y.now carry out.old }
+    ensures { left result out.new ≡ packed_by plus x.now y.now carry out.old }
 {
     match judge::judge(x, y, out.len()) {
         Judged::Admitted => Outcome::Done(work_string(false, x, y, carry, out)),
@@ -78,7 +78,7 @@ pub fn add(x: &[u8], y: &[u8], carry: bool, out: &mut [u8]) -> Outcome
 
 // The difference, x less y.
 pub fn subtract(x: &[u8], y: &[u8], borrow: bool, out: &mut [u8]) -> Outcome
-    ensures { left result out.new ≡ packedBy minus x.now y.now borrow out.old }
+    ensures { left result out.new ≡ packed_by minus x.now y.now borrow out.old }
 {
     match judge::judge(x, y, out.len()) {
         Judged::Admitted => Outcome::Done(work_string(true, x, y, borrow, out)),

@@ -1,13 +1,13 @@
 // What a program in another language is told.
 ghost use Rattle.std.specs.Prelude.{◌≡◌};
-ghost use Rattle.packed.specs.Told.{statusOf, carryLeft};
+ghost use Rattle.packed.specs.Told.{status_of, carry_left};
 
 use crate::judge;
 use crate::string::Outcome;
 
 // Returns the status. The carry or borrow goes in as 0 or 1; a refusal leaves the byte as it was.
 pub fn tell(outcome: Outcome, carry_out: &mut u8) -> u8
-    ensures { (result ≡ statusOf outcome) × (carry_out.new ≡ carryLeft outcome carry_out.old) }
+    ensures { (result ≡ status_of outcome) × (carry_out.new ≡ carry_left outcome carry_out.old) }
 {
     match outcome {
         Outcome::Done(carry) => {

@@ -4,36 +4,36 @@ use Prim.Native.Nat.{ℕ, ◌+◌, ◌<◌, ◌≤◌}
 use native.Mathlib.Omega.{arith}
 use lib.{Dec.ltb, Dec.eqb, ListN.length, ListN.take, ListN.drop}
 use borrow.Author.Tests.{lt-ltb, le-ltb}
-use Rattle.text.specs.{Lines.lineLength, Lines.line_at, Lines.takes, Plain.allDigits}
+use Rattle.text.specs.{Lines.line_length, Lines.line_at, Lines.takes, Plain.all_digits}
 use Rattle.answer.specs.declared.answer.Answer.{Answer}
-use Rattle.readback.specs.{Judge.recordIn, Judge.judged, Judge.readBack, Reader.handOut, Reader.next_at, Told.turnBy, Told.turnAt, Quick.isDigits}
+use Rattle.readback.specs.{Judge.record_in, Judge.judged, Judge.read_back, Reader.hand_out, Reader.next_at, Told.turn_by, Told.turn_at, Quick.is_digits}
 use Rattle.readback.specs.{declared.judge.Refusal.TheVariants.Length, declared.judge.Refusal.TheVariants.Digit, declared.judge.Read.Read}
 use Rattle.readback.specs.{declared.judge.Read.TheVariants.Record, declared.judge.Read.TheVariants.Refused, declared.reader.Handed.TheVariants.End}
 use Rattle.readback.specs.declared.reader.Stepped.{Stepped}
-use Rattle.readback.proofs.LineLaws.{line-length, has-18}
+use Rattle.readback.proofs.LineLaws.{line_length_lem, has_18}
 
 -- what is handed out and the place together
 abbrev pub stepped : Read → ℕ → ℕ → Stepped
-stepped read start place = record { handed = handOut read start; place = place }
+stepped read start place = record { handed = hand_out read start; place = place }
 
 -- ---- a line
 
 -- 18 digits are judged
-pub read-digits : (line : List ℕ) → isDigits line ≡ true → readBack line ≡ judged (recordIn line)
-unfolding readBack
-read-digits line h = by (eqb (length line) 18) (allDigits line) h
+pub read-digits : (line : List ℕ) → is_digits line ≡ true → read_back line ≡ judged (record_in line)
+unfolding read_back
+read-digits line h = by (eqb (length line) 18) (all_digits line) h
   where
-    by : (l d : Bool) → l && d ≡ true → cond (not l) (Refused Length) (cond (not d) (Refused Digit) (judged (recordIn line))) ≡ judged (recordIn line)
+    by : (l d : Bool) → l && d ≡ true → cond (not l) (Refused Length) (cond (not d) (Refused Digit) (judged (record_in line))) ≡ judged (record_in line)
     by true true e = refl
     by true false e = absurd (false≢true e)
     by false d e = absurd (false≢true e)
 
 -- of any other the length decides
-pub read-other : (line : List ℕ) → isDigits line ≡ false → readBack line ≡ Refused (cond (eqb (length line) 18) Digit Length)
-unfolding readBack
-read-other line h = by (eqb (length line) 18) (allDigits line) h
+pub read_other : (line : List ℕ) → is_digits line ≡ false → read_back line ≡ Refused (cond (eqb (length line) 18) Digit Length)
+unfolding read_back
+read_other line h = by (eqb (length line) 18) (all_digits line) h
   where
-    by : (l d : Bool) → l && d ≡ false → cond (not l) (Refused Length) (cond (not d) (Refused Digit) (judged (recordIn line))) ≡ Refused (cond l Digit Length)
+    by : (l d : Bool) → l && d ≡ false → cond (not l) (Refused Length) (cond (not d) (Refused Digit) (judged (record_in line))) ≡ Refused (cond l Digit Length)
     by true true e = absurd (false≢true (sym e))
     by true false e = refl
     by false d e = refl
@@ -42,36 +42,36 @@ read-other line h = by (eqb (length line) 18) (allDigits line) h
 
 module _ (text : List ℕ) (at : ℕ) where
   -- where no byte is left
-  pub at-end : length text ≤ at → record { handed = End; place = at } ≡ next_at text at
+  pub at_end : length text ≤ at → record { handed = End; place = at } ≡ next_at text at
   unfolding next_at
-  at-end h = rw (le-ltb at (length text) h)
+  at_end h = rw (le-ltb at (length text) h)
 
   -- what a caller in another language is told moves the place alike
-  pub turn-place : (was : List ℕ) (start : ℕ) → (turnAt text at was start).place ≡ (next_at text at).place
+  pub turn_place : (was : List ℕ) (start : ℕ) → (turn_at text at was start).place ≡ (next_at text at).place
   unfolding next_at
-  turn-place was start = by (ltb at (length text)) (readBack (line_at text at))
+  turn_place was start = by (ltb at (length text)) (read_back (line_at text at))
     where
       by : (x : Bool) (r : Read) → (let o : Stepped = cond x (stepped r at (at + takes true (drop at text))) (record { handed = End; place = at }) in
-          (turnBy o.handed o.place at was start).place ≡ o.place)
+          (turn_by o.handed o.place at was start).place ≡ o.place)
       by true (Record a) = refl
       by true (Refused why) = refl
       by false r = refl
 
   module _ (some : at < length text) where
     -- what was read of the line
-    pub at-line : {read : Read} {place : ℕ} → read ≡ readBack (line_at text at) → place ≡ at + takes true (drop at text) → stepped read at place ≡ next_at text at
+    pub at_line : {read : Read} {place : ℕ} → read ≡ read_back (line_at text at) → place ≡ at + takes true (drop at text) → stepped read at place ≡ next_at text at
     unfolding next_at
-    at-line r p = rw (lt-ltb at (length text) some) (λ i. stepped (r i) at (p i))
+    at_line r p = rw (lt-ltb at (length text) some) (λ i. stepped (r i) at (p i))
 
     -- 18 digits, read where they stand
-    pub at-digits : isDigits (line_at text at) ≡ true → {a : Answer} → a ≡ recordIn (take 18 (drop at text)) → {read : Read} → read ≡ judged a
-        → read ≡ readBack (line_at text at)
-    at-digits h e r =
-        let n = sym (has-18 text at (omega arith) h) in
-        r ∙ ap judged (e ∙ ap (λ (k : ℕ). recordIn (take k (drop at text))) n) ∙ sym (read-digits (line_at text at) h)
+    pub at_digits : is_digits (line_at text at) ≡ true → {a : Answer} → a ≡ record_in (take 18 (drop at text)) → {read : Read} → read ≡ judged a
+        → read ≡ read_back (line_at text at)
+    at_digits h e r =
+        let n = sym (has_18 text at (omega arith) h) in
+        r ∙ ap judged (e ∙ ap (λ (k : ℕ). record_in (take k (drop at text))) n) ∙ sym (read-digits (line_at text at) h)
 
     -- any other line
-    pub at_other : isDigits (line_at text at) ≡ false → (k : Bool) → eqb (lineLength (drop at text)) 18 ≡ k → Refused (cond k Digit Length) ≡ readBack (line_at text at)
+    pub at_other : is_digits (line_at text at) ≡ false → (k : Bool) → eqb (line_length (drop at text)) 18 ≡ k → Refused (cond k Digit Length) ≡ read_back (line_at text at)
     at_other h k e =
-        let n = ap (λ (j : ℕ). eqb j 18) (line-length text at (omega arith)) in
-        ap (λ (x : Bool). Refused (cond x Digit Length)) (sym e ∙ sym n) ∙ sym (read-other (line_at text at) h)
+        let n = ap (λ (j : ℕ). eqb j 18) (line_length_lem text at (omega arith)) in
+        ap (λ (x : Bool). Refused (cond x Digit Length)) (sym e ∙ sym n) ∙ sym (read_other (line_at text at) h)

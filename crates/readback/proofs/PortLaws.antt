@@ -7,26 +7,26 @@ use native.Mathlib.Omega.{arith}
 use lib.Dec.{leb, eqb, lit≤}
 use borrow.Author.Tests.{leb-true, eqb-true}
 use Rattle.numbers.specs.{Numbers.between, Rows.OneOf}
-use Rattle.flags.specs.Word.{word_of, flags_of, isFlags}
-use Rattle.flags.proofs.WordLaws.{together-within}
+use Rattle.flags.specs.Word.{word_of, flags_of, is_flags}
+use Rattle.flags.proofs.WordLaws.{together_within}
 use Rattle.text.specs.{Fields.read_of, declared.fields.Read.Read}
 use Rattle.text.specs.declared.fields.Read.TheVariants.{Fields as OfFields, Length, Digit}
-use Rattle.answer.specs.{Asked.zeros, Charted.refusalStatus, Refused.Refusal, Refused.ZeroDivisor, Refused.TooWide, Refused.SignRange, Refused.refusal}
+use Rattle.answer.specs.{Asked.zeros, Charted.refusal_status, Refused.Refusal, Refused.ZeroDivisor, Refused.TooWide, Refused.SignRange, Refused.refusal}
 use Rattle.answer.specs.declared.answer.Answer.{Answer}
-use Rattle.answer.proofs.Words.{Words, asked-words, zeros-words}
-use Rattle.line.specs.{One.rawOf, One.answerBy, One.answer_of, Table.rawIn}
-use Rattle.line.proofs.Table.{line-no-other, line-zeros, line-demand-1}
-use Rattle.readback.specs.{Judge.isStatus, Judge.refusesDivide, Judge.noResult, Judge.allZeros, Judge.notZero, Judge.judged, Judge.readBack, Again.line_of, Again.Typed}
+use Rattle.answer.proofs.Words.{Words, asked_words, zeros_words}
+use Rattle.line.specs.{One.raw_of, One.answer_by, One.answer_of, Table.raw_in}
+use Rattle.line.proofs.Table.{line_no_other, line_zeros, line_demand_1}
+use Rattle.readback.specs.{Judge.is_status, Judge.refuses_divide, Judge.no_result, Judge.all_zeros, Judge.not_zero, Judge.judged, Judge.read_back, Again.line_of, Again.Typed}
 use Rattle.readback.specs.declared.judge.Read.TheVariants.{Record}
-use Rattle.readback.proofs.{JudgeLaws.outside-is, AgainLaws.written_read}
+use Rattle.readback.proofs.{JudgeLaws.outside_is, AgainLaws.written_read}
 
 -- a status that there is, and zeros where they have to be
 abbrev Sound : Answer → Type 0
-Sound a = (isStatus a.status ≡ true) × (notZero a ≡ false)
+Sound a = (is_status a.status ≡ true) × (not_zero a ≡ false)
 
 -- the types of two fields
-status-small : (k : ℕ) → isStatus k ≡ true → k < 0x100
-status-small k = by (leb k 6) (eqb k 8) (eqb k 9) refl refl refl
+status_small : (k : ℕ) → is_status k ≡ true → k < 0x100
+status_small k = by (leb k 6) (eqb k 8) (eqb k 9) refl refl refl
   where
     by : (x y z : Bool) → leb k 6 ≡ x → eqb k 8 ≡ y → eqb k 9 ≡ z → x || y || z ≡ true → k < 0x100
     by true y z ex ey ez h = omega (arith, leb-true k 6 ex)
@@ -34,9 +34,9 @@ status-small k = by (leb k 6) (eqb k 8) (eqb k 9) refl refl refl
     by false false true ex ey ez h = omega (arith, eqb-true k 9 ez)
     by false false false ex ey ez h = absurd (false≢true h)
 
-flags-small : (w : ℕ) → isFlags w ≡ true → w < 0x1_0000
-unfolding isFlags
-flags-small w h = omega (arith, eqb-true (word_of (flags_of w)) w h, (together-within (flags_of w)).above)
+flags_small : (w : ℕ) → is_flags w ≡ true → w < 0x1_0000
+unfolding is_flags
+flags_small w h = omega (arith, eqb-true (word_of (flags_of w)) w h, (together_within (flags_of w)).above)
 
 module _ (line : List ℕ) where
   abbrev a : Answer
@@ -47,19 +47,19 @@ module _ (line : List ℕ) where
   unfolding answer_of
   words = by (read_of line)
     where
-      by : (r : Read) → Words (answerBy r)
-      by (OfFields f) = asked-words (rawOf f)
-      by Length = zeros-words 1
-      by Digit = zeros-words 2
+      by : (r : Read) → Words (answer_by r)
+      by (OfFields f) = asked_words (raw_of f)
+      by Length = zeros_words 1
+      by Digit = zeros_words 2
 
   done : a.status ≡ 0 → Sound a
-  done e = (ap isStatus e, λ i. (between 1 5 (e i) && not (allZeros a)) || (refusesDivide (e i) && not (noResult a)))
+  done e = (ap is_status e, λ i. (between 1 5 (e i) && not (all_zeros a)) || (refuses_divide (e i) && not (no_result a)))
 
   refused : (k : ℕ) → 1 ≤ k → k ≤ 5 → Sound (zeros k) → a.status ≡ k → Sound a
-  refused k low high h e = subst Sound (sym (line-zeros line (subst (λ (j : ℕ). 1 ≤ j) (sym e) low) (subst (λ (j : ℕ). j ≤ 5) (sym e) high) ∙ ap zeros e)) h
+  refused k low high h e = subst Sound (sym (line_zeros line (subst (λ (j : ℕ). 1 ≤ j) (sym e) low) (subst (λ (j : ℕ). j ≤ 5) (sym e) high) ∙ ap zeros e)) h
 
-  refused-divide : (why : Refusal) → Sound (refusal why (rawIn line)) → a.status ≡ refusalStatus why → Sound a
-  refused-divide why h e = subst Sound (sym ((line-demand-1 line why).1 e)) h
+  refused-divide : (why : Refusal) → Sound (refusal why (raw_in line)) → a.status ≡ refusal_status why → Sound a
+  refused-divide why h e = subst Sound (sym ((line_demand_1 line why).1 e)) h
 
   sound : OneOf a.status (0 ∷ 1 ∷ 2 ∷ 3 ∷ 4 ∷ 5 ∷ 6 ∷ 8 ∷ 9 ∷ []) → Sound a
   sound (inl e) = done e
@@ -74,13 +74,13 @@ module _ (line : List ℕ) where
   sound (inr (inr (inr (inr (inr (inr (inr (inr (inr z))))))))) = absurd z
 
   -- no refusal fits it
-  pub answers-fit : judged a ≡ Record a
+  pub answers_fit : judged a ≡ Record a
   unfolding judged
-  answers-fit = let h = sound (line-no-other line) in rw (h.0, outside-is a.flags, words.0, h.1)
+  answers_fit = let h = sound (line_no_other line) in rw (h.0, outside_is a.flags, words.0, h.1)
 
   typed : Typed a
-  typed = record { status = status-small a.status (sound (line-no-other line)).0; flags = flags-small a.flags words.0; steps = words.1; r = words.2; s = words.3 }
+  typed = record { status = status_small a.status (sound (line_no_other line)).0; flags = flags_small a.flags words.0; steps = words.1; r = words.2; s = words.3 }
 
   -- what is written for it reads as it
-  pub answers-read : readBack (line_of a) ≡ Record a
-  answers-read = written_read a typed answers-fit
+  pub answers_read : read_back (line_of a) ≡ Record a
+  answers_read = written_read a typed answers_fit

@@ -1,6 +1,6 @@
 -- The one walk of every function over a `&mut Reader` that calls a function on the slice and the number, stores the number that that returns, and returns what is handed out. Such functions differ in the callee's name and in what it comes to.
 --     thin k           their MIR, at a callee's name
---     thin-spec        the theorem of one, from its callee's
+--     thin_spec        the theorem of one, from its callee's
 -- Assumes nothing.
 use mathlib.Core.{Path.◌≡◌, Path.refl, Path.ap, List.List, List.[], List.◌∷◌}
 use Prim.Native.Nat.{ℕ, ◌<◌, ◌^◌}
@@ -52,7 +52,7 @@ use Rattle.readback.specs.contracts.reader.Stepped as P
 use Rattle.readback.proofs.reader.Stepped.TheLaws as P'
 use Rattle.readback.specs.contracts.reader.Handed as S
 use Rattle.readback.proofs.reader.Handed.TheLaws as S'
-use Rattle.readback.proofs.{reader.next_at.signature as callee-signature, reader.next_at.ended as callee-ended, reader.next.signature, reader.next.ended}
+use Rattle.readback.proofs.{reader.next_at.signature as callee-signature, reader.next_at.ended as callee_ended, reader.next.signature, reader.next.ended}
 
 -- `Reader<'a>`, as the referent's place in the signature
 abbrev behind : Slot 2
@@ -79,11 +79,11 @@ stayed = (stay_ref (0 ∷ []) tt behind, tt)
 
 -- the contracts, of the callee and of the thin function, at what the callee comes to
 module _ {M : Type 1} {𝓤 : Ura M} (𝓛 : Logic 𝓤) (F : List ℕ → ℕ → Stepped) where
-  abbrev callee-clauses : Clauses 𝓤 callee-ended
-  callee-clauses κs a = record { ghost = Unit {0}; requires = λ _. emp 𝓤; ensures = λ _ r _. fact 𝓤 (r ≡ F a.0.now a.1.0) }
+  abbrev callee_clauses : Clauses 𝓤 callee_ended
+  callee_clauses κs a = record { ghost = Unit {0}; requires = λ _. emp 𝓤; ensures = λ _ r _. fact 𝓤 (r ≡ F a.0.now a.1.0) }
 
   abbrev pub Callee : Contract 𝓤
-  Callee = triple_of 𝓛 callee-signature (closing 𝓛 callee-ended callee-clauses)
+  Callee = triple_of 𝓛 callee-signature (closing 𝓛 callee_ended callee_clauses)
 
   abbrev clauses : Clauses 𝓤 ended
   clauses κs a = record { ghost = Unit {0}; requires = λ _. emp 𝓤; ensures = λ _ s end. fact 𝓤 ((s ≡ (F a.0.now.text.now a.0.now.at).handed) × (end.0.now.text ≡ a.0.now.text) × (end.0.now.at ≡ (F a.0.now.text.now a.0.now.at).place)) }
@@ -150,8 +150,8 @@ module _ {M : Type 1} {𝓤 : Ura M} (𝓛 : Logic 𝓤) (F : List ℕ → ℕ �
       move ! (2 ∷ 0 ∷ []) $ use2 𝓛 (raw ((Callee 𝓛 F).pre to)) asked $ frame ! $ done !)
 
   -- of the callee's `ensured`, the clause alone
-  said : (r : Stepped) → ent 𝓤 (ensured 𝓛 callee-ended (callee-clauses 𝓛 F) (κ', tt) (h.text, (h.at, tt)) tt r) (fact 𝓤 (r ≡ found))
-  said r = ex_e 𝓤 _ (λ ws. snd∗ 𝓤 (sem 𝓛 (lasts callee-ended (κ', tt) (h.text, (h.at, tt)) ws)) (fact 𝓤 (r ≡ found)))
+  said : (r : Stepped) → ent 𝓤 (ensured 𝓛 callee_ended (callee_clauses 𝓛 F) (κ', tt) (h.text, (h.at, tt)) tt r) (fact 𝓤 (r ≡ found))
+  said r = ex_e 𝓤 _ (λ ws. snd∗ 𝓤 (sem 𝓛 (lasts callee_ended (κ', tt) (h.text, (h.at, tt)) ws)) (fact 𝓤 (r ≡ found)))
 
   -- what text owns is kept, and at's facts are made anew
   again : (n : ℕ) → n < 2 ^ 64 → ent 𝓤 (sem 𝓛 (Own h.at)) (sem 𝓛 (Own n))
@@ -179,7 +179,7 @@ module _ {M : Type 1} {𝓤 : Ura M} (𝓛 : Logic 𝓤) (F : List ℕ → ℕ �
         move ! (0 ∷ 5 ∷ []) $ use2 𝓛 (raw ((Callee 𝓛 F).pre to) ⊛ ‵ (Own h.at)) (apart (LL.owed D L h _ was).1.0.1) $ split ! $
         -- [what the callee asks; what a Reader owns; the struct's cell; the open borrow; obs; auth; true; _4; …]
         calls_at ! fm (Callee 𝓛 F) known to (and_then ! (load ! (from ! (stop !)) (look ! 9 refl)) (and_then ! (load ! (from ! (stop !)) (look ! 7 refl)) (no_more !))) (λ u.
-        use1 𝓛 (later (some (λ (r : Stepped). ((‵ (flft κ' q') ⊛ ‵ ftrue) ⊛ ‵ ((P.the_row).own_val r (u ∷ []))) ⊛ raw (ensured 𝓛 callee-ended (callee-clauses 𝓛 F) (κ', tt) (h.text, (h.at, tt)) tt r)))) (id⊢ 𝓤 _) $ await ! tt $ pick ! (λ r.
+        use1 𝓛 (later (some (λ (r : Stepped). ((‵ (flft κ' q') ⊛ ‵ ftrue) ⊛ ‵ ((P.the_row).own_val r (u ∷ []))) ⊛ raw (ensured 𝓛 callee_ended (callee_clauses 𝓛 F) (κ', tt) (h.text, (h.at, tt)) tt r)))) (id⊢ 𝓤 _) $ await ! tt $ pick ! (λ r.
         split ! $ move ! (1 ∷ []) $ use1 𝓛 (raw (fact 𝓤 (r ≡ found))) (said r) $ heard ! (r ≡ found) (λ e. split ! $ move ! (1 ∷ []) $
         peeks ! P.the_row (Is P.the_row) (shows 𝓛 P.the_row) r (u ∷ []) (λ is. drop ! $
         -- [the token of 'a; what a Reader owns; the struct's cell; the open borrow; obs; auth; true; _4; …]
@@ -198,17 +198,17 @@ module _ {M : Type 1} {𝓤 : Ura M} (𝓛 : Logic 𝓤) (F : List ℕ → ℕ �
 module _ {M : Type 1} {𝓤 : Ura M} (𝓛 : Logic 𝓤) (F : List ℕ → ℕ → Stepped) (𝓣 : Tables 𝓤 𝓛.H) (k : Name) (known : Triple 𝓤 (𝓣.C k) (Callee 𝓛 F)) where
   open 𝓛 use {H}
 
-  thin-walks : Walks 𝓛 ended stayed (WpFn 𝓤 H 𝓣.C 𝓣.Λ (thin k)) (clauses 𝓛 F)
-  thin-walks = walked 𝓛 ended stayed (clauses 𝓛 F) (WpFn 𝓤 H 𝓣.C 𝓣.Λ (thin k)) (λ κs. (mut_vals, tt)) (λ κs. (mut_Tells (named 0) κs.0 (T.the_row (named_lft 2 1 tt κs)), tt))
+  thin_walks : Walks 𝓛 ended stayed (WpFn 𝓤 H 𝓣.C 𝓣.Λ (thin k)) (clauses 𝓛 F)
+  thin_walks = walked 𝓛 ended stayed (clauses 𝓛 F) (WpFn 𝓤 H 𝓣.C 𝓣.Λ (thin k)) (λ κs. (mut_vals, tt)) (λ κs. (mut_Tells (named 0) κs.0 (T.the_row (named_lft 2 1 tt κs)), tt))
       (λ κs qs bounds a _ _. via 𝓤 _ (fst∗ 𝓤 _ (emp 𝓤)) (walk 𝓛 F κs.0 κs.1.0 qs.0 qs.1.0 bounds a.0.ref_ptr.0 a.0.ref_ptr.1 a.0.ghost_name a.0.now 𝓣.C 𝓣.Λ (fm_of 𝓤 H 𝓛.laws 𝓣) k known))
 
-  thin-meets : Triple 𝓤 (WpFn 𝓤 H 𝓣.C 𝓣.Λ (thin k)) (Thin 𝓛 F)
-  thin-meets = walk_Meets 𝓛 ended stayed (Goes-ref 𝓛 2 0 tt behind, tt) (clauses 𝓛 F) (WpFn 𝓤 H 𝓣.C 𝓣.Λ (thin k)) (WpFn-mono 𝓤 H 𝓛.laws 𝓣 (thin k)) thin-walks
+  thin_meets : Triple 𝓤 (WpFn 𝓤 H 𝓣.C 𝓣.Λ (thin k)) (Thin 𝓛 F)
+  thin_meets = walk_Meets 𝓛 ended stayed (Goes-ref 𝓛 2 0 tt behind, tt) (clauses 𝓛 F) (WpFn 𝓤 H 𝓣.C 𝓣.Λ (thin k)) (WpFn-mono 𝓤 H 𝓛.laws 𝓣 (thin k)) thin_walks
 
 -- f's theorem, from the theorem of the callee, whose name is k and whose routine is r
-pub thin-spec : {M : Type 1} {𝓤 : Ura M} (𝓛 : Logic 𝓤) (𝓜 : Model 𝓤 𝓛.H) (𝓡 : Running 𝓤 𝓛.H 𝓜) (F : List ℕ → ℕ → Stepped) (f : Name) (env : Env) (k : Name)
+pub thin_spec : {M : Type 1} {𝓤 : Ura M} (𝓛 : Logic 𝓤) (𝓜 : Model 𝓤 𝓛.H) (𝓡 : Running 𝓤 𝓛.H 𝓜) (F : List ℕ → ℕ → Stepped) (f : Name) (env : Env) (k : Name)
     → Closed 𝓤 𝓛.H (tables 𝓤 𝓛.H 𝓜 𝓡 env).C (tables 𝓤 𝓛.H 𝓜 𝓡 env).Λ f (thin k) → (r : Routine) → env k ≡ r → Triple 𝓤 (𝓡.run r) (Callee 𝓛 F) → Triple 𝓤 (𝓡.run (env f)) (Thin 𝓛 F)
 unfolding tables_of
-thin-spec {𝓤 = 𝓤} 𝓛 𝓜 𝓡 F f env k unfolded r calls met =
+thin_spec {𝓤 = 𝓤} 𝓛 𝓜 𝓡 F f env k unfolded r calls met =
     entered 𝓤 𝓛.H (Thin 𝓛 F) (tables 𝓤 𝓛.H 𝓜 𝓡 env).C (tables 𝓤 𝓛.H 𝓜 𝓡 env).Λ f (thin k) unfolded
-    (thin-meets 𝓛 F (tables_of 𝓤 𝓛.H 𝓜 (tables 𝓤 𝓛.H 𝓜 𝓡 env)) k (cited 𝓤 𝓛.H (Callee 𝓛 F) 𝓜 𝓡 env k r calls met))
+    (thin_meets 𝓛 F (tables_of 𝓤 𝓛.H 𝓜 (tables 𝓤 𝓛.H 𝓜 𝓡 env)) k (cited 𝓤 𝓛.H (Callee 𝓛 F) 𝓜 𝓡 env k r calls met))

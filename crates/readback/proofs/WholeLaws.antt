@@ -7,23 +7,23 @@ use native.Mathlib.{Nat.le_refl, Omega.arith}
 use lib.{Dec.ltb, ListN.length, ListN.get_or, ListN.take, ListN.drop, ListN.length-drop, ListN.drop_of_length-le}
 use lib.Seq.{take-suc, drop-cons, take_all, split_at, drop-drop, drop-length}
 use borrow.Author.Tests.{ltb-true, ltb-false}
-use Rattle.text.specs.Lines.{lineLength, line_at, takes, lines_of, bytesIn}
-use Rattle.text.proofs.{FoundLaws.feed-behind, NextLine.takes-within, NextLine.line-takes, NextLine.first-takes, NextLine.first-line, NextLine.bytes-more}
-use Rattle.readback.specs.{Judge.readBack, Reader.handOut, Reader.next_at, Whole.placeAfter, declared.judge.Read.Read}
+use Rattle.text.specs.Lines.{line_length, line_at, takes, lines_of, bytes_in}
+use Rattle.text.proofs.{FoundLaws.feed_behind, NextLine.takes_within, NextLine.line_takes, NextLine.first_takes, NextLine.first_line, NextLine.bytes_more}
+use Rattle.readback.specs.{Judge.read_back, Reader.hand_out, Reader.next_at, Whole.place_after, declared.judge.Read.Read}
 use Rattle.readback.specs.{declared.judge.Read.TheVariants.Record, declared.judge.Read.TheVariants.Refused, declared.reader.BadLine.BadLine, declared.reader.Handed.Handed}
 use Rattle.readback.specs.declared.reader.Handed.TheVariants.{Record as HandedRecord, Bad, End}
 use Rattle.readback.specs.declared.reader.Stepped.{Stepped}
-use Rattle.readback.proofs.NextLaws.{stepped, at-end, at-line}
+use Rattle.readback.proofs.NextLaws.{stepped, at_end, at_line}
 
-abbrev isBad : Handed → Bool
-isBad (HandedRecord a) = false
-isBad (Bad bad) = true
-isBad End = false
+abbrev is_bad : Handed → Bool
+is_bad (HandedRecord a) = false
+is_bad (Bad bad) = true
+is_bad End = false
 
-abbrev badOf : BadLine → Handed → BadLine
-badOf other (HandedRecord a) = other
-badOf other (Bad bad) = bad
-badOf other End = other
+abbrev bad_of : BadLine → Handed → BadLine
+bad_of other (HandedRecord a) = other
+bad_of other (Bad bad) = bad
+bad_of other End = other
 
 module _ (text : List ℕ) where
   abbrev lines : List (List ℕ)
@@ -36,10 +36,10 @@ module _ (text : List ℕ) where
     rest = drop p text
 
     some_left : p < length text → 0 < takes true rest
-    some_left h = line-takes rest (simp length-drop (omega arith))
+    some_left h = line_takes rest (simp length-drop (omega arith))
 
-    first-left : p < length text → lines_of true rest ≡ line_at text p ∷ lines_of true (drop (p + takes true rest) text)
-    first-left h = first-line true rest (some_left h) ∙ ap (λ (t : List ℕ). line_at text p ∷ lines_of true t) (drop-drop (takes true rest) p text)
+    first_left : p < length text → lines_of true rest ≡ line_at text p ∷ lines_of true (drop (p + takes true rest) text)
+    first_left h = first_line true rest (some_left h) ∙ ap (λ (t : List ℕ). line_at text p ∷ lines_of true t) (drop-drop (takes true rest) p text)
 
     module _ (k : ℕ) (left : lines_of true rest ≡ drop k lines) (more : k < length lines) where
       bytes_left : p < length text
@@ -51,107 +51,107 @@ module _ (text : List ℕ) where
               let none : drop p text ≡ [] = drop_of_length-le text (ltb-false p (length text) e) in
               absurd (omega (arith, ap length (rw none at left), length-drop k lines))
 
-      turned : next_at text p ≡ stepped (readBack (line_at text p)) p (p + takes true rest)
-      turned = sym (at-line text p bytes_left refl refl)
+      turned : next_at text p ≡ stepped (read_back (line_at text p)) p (p + takes true rest)
+      turned = sym (at_line text p bytes_left refl refl)
 
       moved : (next_at text p).place ≡ p + takes true rest
       moved = ap (λ (s : Stepped). s.place) turned
 
-      both-lines : line_at text p ∷ lines_of true (drop (p + takes true rest) text) ≡ get_or lines k [] ∷ drop (suc k) lines
-      both-lines = sym (first-left bytes_left) ∙ left ∙ drop-cons lines k [] more
+      both_lines : line_at text p ∷ lines_of true (drop (p + takes true rest) text) ≡ get_or lines k [] ∷ drop (suc k) lines
+      both_lines = sym (first_left bytes_left) ∙ left ∙ drop-cons lines k [] more
 
   -- the lines that are left after k turns
-  pub lines_left : (k : ℕ) → k ≤ length lines → (placeAfter text k ≤ length text) × (lines_of true (drop (placeAfter text k) text) ≡ drop k lines)
+  pub lines_left : (k : ℕ) → k ≤ length lines → (place_after text k ≤ length text) × (lines_of true (drop (place_after text k) text) ≡ drop k lines)
   lines_left zero h = (omega arith, refl)
   lines_left (suc k) h =
-      let p = placeAfter text k in
+      let p = place_after text k in
       let left = (lines_left k (omega arith)).1 in
-      let within : p + takes true (drop p text) ≤ length text = omega (arith, takes-within true (drop p text), length-drop p text, bytes_left p k left h) in
-      rw (moved p k left h) (within, ap (drop 1) (both-lines p k left h))
+      let within : p + takes true (drop p text) ≤ length text = omega (arith, takes_within true (drop p text), length-drop p text, bytes_left p k left h) in
+      rw (moved p k left h) (within, ap (drop 1) (both_lines p k left h))
 
   -- ---- turn k
 
   module _ (k : ℕ) (more : k < length lines) where
     abbrev place : ℕ
-    place = placeAfter text k
+    place = place_after text k
 
     left_here : lines_of true (drop place text) ≡ drop k lines
     left_here = (lines_left k (omega arith)).1
 
-    some-here : place < length text
-    some-here = bytes_left place k left_here more
+    some_here : place < length text
+    some_here = bytes_left place k left_here more
 
-    next_place : placeAfter text (suc k) ≡ place + takes true (drop place text)
+    next_place : place_after text (suc k) ≡ place + takes true (drop place text)
     next_place = moved place k left_here more
 
     -- line k stands there
-    pub line-there : line_at text place ≡ get_or lines k []
-    line-there = ap (λ (l : List (List ℕ)). get_or l 0 []) (both-lines place k left_here more)
+    pub line_there : line_at text place ≡ get_or lines k []
+    line_there = ap (λ (l : List (List ℕ)). get_or l 0 []) (both_lines place k left_here more)
 
     -- it is handed out, and a refusal tells the place where it starts
-    pub hands_out : (next_at text place).handed ≡ handOut (readBack (get_or lines k [])) place
-    hands_out = ap (λ (s : Stepped). s.handed) (turned place k left_here more) ∙ ap (λ (line : List ℕ). handOut (readBack line) place) line-there
+    pub hands_out : (next_at text place).handed ≡ hand_out (read_back (get_or lines k [])) place
+    hands_out = ap (λ (s : Stepped). s.handed) (turned place k left_here more) ∙ ap (λ (line : List ℕ). hand_out (read_back line) place) line_there
 
     -- from there on the text is that line, its line feed and what is read next; or that line alone, and the next place is the text's end
-    pub no-byte-lost : (let line = get_or lines k [] in
-        (drop place text ≡ line ++ (0x0A ∷ drop (placeAfter text (suc k)) text)) ⊎ ((drop place text ≡ line) × (placeAfter text (suc k) ≡ length text)))
-    no-byte-lost = rw (← line-there, next_place) (by (ltb size (length here)) refl)
+    pub no_byte_lost : (let line = get_or lines k [] in
+        (drop place text ≡ line ++ (0x0A ∷ drop (place_after text (suc k)) text)) ⊎ ((drop place text ≡ line) × (place_after text (suc k) ≡ length text)))
+    no_byte_lost = rw (← line_there, next_place) (by (ltb size (length here)) refl)
       where
         here : List ℕ
         here = drop place text
 
         size : ℕ
-        size = lineLength here
+        size = line_length here
 
         by : (x : Bool) → ltb size (length here) ≡ x
             → (here ≡ take size here ++ (0x0A ∷ drop (place + cond x (suc size) (length here)) text)) ⊎ ((here ≡ take size here) × (place + cond x (suc size) (length here) ≡ length text))
         by true e =
-            let in-text : size < length here = ltb-true size (length here) e in
+            let in_text : size < length here = ltb-true size (length here) e in
             let after = drop-drop (suc size) place text in
-            inl (split_at here size 0 in-text ∙ (λ i. take size here ++ (feed-behind here in-text i ∷ after i)))
-        by false e = inr (sym (take_all size here (ltb-false size (length here) e)), simp length-drop (omega (arith, some-here)))
+            inl (split_at here size 0 in_text ∙ (λ i. take size here ++ (feed_behind here in_text i ∷ after i)))
+        by false e = inr (sym (take_all size here (ltb-false size (length here) e)), simp length-drop (omega (arith, some_here)))
 
   -- before the place stand the lines before it, each with its line feed, as far as the text goes
-  pub starts-there : (k : ℕ) → k ≤ length lines → placeAfter text k ≡ min (bytesIn (take k lines)) (length text)
-  starts-there zero h = omega arith
-  starts-there (suc k) h =
-      let p = placeAfter text k in
+  pub starts_there : (k : ℕ) → k ≤ length lines → place_after text k ≡ min (bytes_in (take k lines)) (length text)
+  starts_there zero h = omega arith
+  starts_there (suc k) h =
+      let p = place_after text k in
       let line = get_or lines k [] in
-      let some = some-here k h in
+      let some = some_here k h in
       let taken : takes true (drop p text) ≡ min (suc (length line)) (length (drop p text)) =
-      first-takes true (drop p text) (some_left p some) ∙ ap (λ (l : List ℕ). min (suc (length l)) (length (drop p text))) (line-there k h) in
-      let bytes : bytesIn (take (suc k) lines) ≡ bytesIn (take k lines) + suc (length line) = ap bytesIn (take-suc lines k [] h) ∙ bytes-more (take k lines) line in
-      omega (arith, next_place k h, taken, bytes, starts-there k (omega arith), some, length-drop p text)
+      first_takes true (drop p text) (some_left p some) ∙ ap (λ (l : List ℕ). min (suc (length l)) (length (drop p text))) (line_there k h) in
+      let bytes : bytes_in (take (suc k) lines) ≡ bytes_in (take k lines) + suc (length line) = ap bytes_in (take-suc lines k [] h) ∙ bytes_more (take k lines) line in
+      omega (arith, next_place k h, taken, bytes, starts_there k (omega arith), some, length-drop p text)
 
   -- where turn k tells of a bad line, it is line k, which starts at the byte that is told, behind the lines before it, and is refused for the reason
   -- that is told
-  pub told-start : (k : ℕ) → k < length lines → (bad : BadLine) → (next_at text (placeAfter text k)).handed ≡ Bad bad
-      → (bad.start ≡ bytesIn (take k lines)) × (line_at text bad.start ≡ get_or lines k []) × (readBack (get_or lines k []) ≡ Refused bad.why)
-  told-start k more bad e = by (readBack (get_or lines k [])) (sym (hands_out k more) ∙ e)
+  pub told_start : (k : ℕ) → k < length lines → (bad : BadLine) → (next_at text (place_after text k)).handed ≡ Bad bad
+      → (bad.start ≡ bytes_in (take k lines)) × (line_at text bad.start ≡ get_or lines k []) × (read_back (get_or lines k []) ≡ Refused bad.why)
+  told_start k more bad e = by (read_back (get_or lines k [])) (sym (hands_out k more) ∙ e)
     where
       p : ℕ
-      p = placeAfter text k
+      p = place_after text k
 
-      starts : p ≡ bytesIn (take k lines)
-      starts = omega (arith, starts-there k (omega arith), some-here k more)
+      starts : p ≡ bytes_in (take k lines)
+      starts = omega (arith, starts_there k (omega arith), some_here k more)
 
-      by : (r : Read) → handOut r p ≡ Bad bad → (bad.start ≡ bytesIn (take k lines)) × (line_at text bad.start ≡ get_or lines k []) × (r ≡ Refused bad.why)
-      by (Record a) q = absurd (false≢true (ap isBad q))
+      by : (r : Read) → hand_out r p ≡ Bad bad → (bad.start ≡ bytes_in (take k lines)) × (line_at text bad.start ≡ get_or lines k []) × (r ≡ Refused bad.why)
+      by (Record a) q = absurd (false≢true (ap is_bad q))
       by (Refused why) q =
-          let same : record { why = why; start = p } ≡ bad = ap (badOf bad) q in
+          let same : record { why = why; start = p } ≡ bad = ap (bad_of bad) q in
           let at : bad.start ≡ p = sym (ap (λ (b : BadLine). b.start) same) in
-          (at ∙ starts, ap (line_at text) at ∙ line-there k more, ap (λ (b : BadLine). Refused b.why) same)
+          (at ∙ starts, ap (line_at text) at ∙ line_there k more, ap (λ (b : BadLine). Refused b.why) same)
 
   -- a text is read to its end in as many turns as it has lines
-  pub then-the-end : (placeAfter text (length lines) ≡ length text) × (next_at text (length text) ≡ record { handed = End; place = length text })
-  then-the-end = (by (ltb p (length text)) refl, sym (at-end text (length text) (le_refl _)))
+  pub then_the_end : (place_after text (length lines) ≡ length text) × (next_at text (length text) ≡ record { handed = End; place = length text })
+  then_the_end = (by (ltb p (length text)) refl, sym (at_end text (length text) (le_refl _)))
     where
       p : ℕ
-      p = placeAfter text (length lines)
+      p = place_after text (length lines)
 
       all : (p ≤ length text) × (lines_of true (drop p text) ≡ drop (length lines) lines)
       all = lines_left (length lines) (le_refl _)
 
       by : (x : Bool) → ltb p (length text) ≡ x → p ≡ length text
-      by true e = absurd (omega (arith, ap length (sym (first-left p (ltb-true p (length text) e)) ∙ all.1 ∙ drop-length lines)))
+      by true e = absurd (omega (arith, ap length (sym (first_left p (ltb-true p (length text) e)) ∙ all.1 ∙ drop-length lines)))
       by false e = omega (arith, all.0, ltb-false p (length text) e)

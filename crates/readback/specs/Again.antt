@@ -1,7 +1,7 @@
 -- A record written again, and a line in capitals. Assumes nothing.
 use Rattle.std.specs.Prelude.{cond, List, [], ◌∷◌, ℕ, ◌-◌, ◌<◌, take}
 use Rattle.numbers.specs.Numbers.{between}
-use Rattle.line.specs.One.{textBy}
+use Rattle.line.specs.One.{text_by}
 use Rattle.answer.specs.declared.answer.Answer.{Answer}
 
 -- a to f become A to F, and any other byte stays
@@ -15,7 +15,7 @@ capitals (b ∷ line) = capital b ∷ capitals line
 
 -- the 18 digits of a record, without their line feed
 abbrev pub line_of : Answer → List ℕ
-line_of a = take 18 (textBy a)
+line_of a = take 18 (text_by a)
 
 -- the types of a record's fields: 16 bits each, and 8 of the status
 pub record Typed (a : Answer) : Type 0 where

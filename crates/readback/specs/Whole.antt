@@ -3,6 +3,6 @@ use Rattle.std.specs.Prelude.{List, ℕ, zero, suc}
 use Rattle.readback.specs.Reader.{next_at}
 
 -- where a reader stands after so many turns
-abbrev pub placeAfter : List ℕ → ℕ → ℕ
-placeAfter text zero = 0
-placeAfter text (suc k) = (next_at text (placeAfter text k)).place
+abbrev pub place_after : List ℕ → ℕ → ℕ
+place_after text zero = 0
+place_after text (suc k) = (next_at text (place_after text k)).place

@@ -1,7 +1,7 @@
 // What is refused of a record, whose digits are all there.
 ghost use Rattle.std.specs.Prelude.{◌≡◌};
-ghost use Rattle.readback.specs.Judge.{isStatus, notZero, judged, refusalStatus};
-ghost use Rattle.readback.specs.Quick.{reasonOf};
+ghost use Rattle.readback.specs.Judge.{is_status, not_zero, judged, refusal_status};
+ghost use Rattle.readback.specs.Quick.{reason_of};
 
 use answer::answer::Answer;
 use flags::word::Flags;
@@ -23,14 +23,14 @@ pub enum Read {
 }
 
 fn is_status(status: u8) -> bool
-    ensures { result ≡ isStatus status }
+    ensures { result ≡ is_status status }
 {
     (status <= 6) | (status == 8) | (status == 9)
 }
 
 // A status of 1 to 5 with anything but zeros, or a refused divide with R or S not 0.
 fn not_zero(a: Answer) -> bool
-    ensures { result ≡ notZero a }
+    ensures { result ≡ not_zero a }
 {
     let status = a.status;
     let results = (a.r == 0) & (a.s == 0);
@@ -41,7 +41,7 @@ fn not_zero(a: Answer) -> bool
 
 // Which of the three it is, of a record that is refused.
 fn reason(a: Answer) -> Refusal
-    ensures { result ≡ reasonOf a }
+    ensures { result ≡ reason_of a }
 {
     if !is_status(a.status) {
         return Refusal::Status;
@@ -64,7 +64,7 @@ pub fn judge(a: Answer) -> Read
 }
 
 pub fn refusal_status(refusal: Refusal) -> u8
-    ensures { result ≡ refusalStatus refusal }
+    ensures { result ≡ refusal_status refusal }
 {
     match refusal {
         Refusal::Length => 30,

@@ -1,7 +1,7 @@
 // One answer line, handed in without its line feed.
 ghost use Rattle.std.specs.Prelude.{◌≡◌, true, ◌+◌, ◌≤◌, length, take, drop};
-ghost use Rattle.text.specs.Plain.{allDigits};
-ghost use Rattle.readback.specs.Judge.{recordIn, readBack};
+ghost use Rattle.text.specs.Plain.{all_digits};
+ghost use Rattle.readback.specs.Judge.{record_in, read_back};
 
 use crate::judge;
 use crate::judge::{Read, Refusal};
@@ -14,8 +14,8 @@ pub const DIGITS: usize = 18;
 // The record in the 18 digits from `at` on.
 pub fn record_at(text: &[u8], at: usize) -> Answer
     requires at_in_bounds { at + 18 ≤ length text.now }
-    requires text_value { allDigits (take 18 (drop at text.now)) ≡ true }
-    ensures { result ≡ recordIn (take 18 (drop at text.now)) }
+    requires text_value { all_digits (take 18 (drop at text.now)) ≡ true }
+    ensures { result ≡ record_in (take 18 (drop at text.now)) }
 {
     Answer {
         status: hex::two_digits(text, at),
@@ -27,7 +27,7 @@ pub fn record_at(text: &[u8], at: usize) -> Answer
 }
 
 pub fn read_answer(line: &[u8]) -> Read
-    ensures { result ≡ readBack line.now }
+    ensures { result ≡ read_back line.now }
 {
     if line.len() != DIGITS {
         return Read::Refused(Refusal::Length);

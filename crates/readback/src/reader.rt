@@ -1,8 +1,8 @@
 // A reader of many answer lines. It holds the text and its place in it, and hands out line after line.
 ghost use Rattle.std.specs.Prelude.{◌≡◌, false, ◌≤◌, ◌<◌, length};
 ghost use Rattle.text.specs.Lines.{line_at};
-ghost use Rattle.readback.specs.Reader.{handOut, next_at};
-ghost use Rattle.readback.specs.Quick.{isDigits, ends_at};
+ghost use Rattle.readback.specs.Reader.{hand_out, next_at};
+ghost use Rattle.readback.specs.Quick.{is_digits, ends_at};
 
 use crate::judge::{Read, Refusal};
 use crate::{judge, one};
@@ -37,7 +37,7 @@ pub struct Stepped {
 }
 
 fn hand(read: Read, start: usize) -> Handed
-    ensures { result ≡ handOut read start }
+    ensures { result ≡ hand_out read start }
 {
     match read {
         Read::Record(a) => Handed::Record(a),
@@ -59,7 +59,7 @@ fn ends_at(text: &[u8], at: usize) -> bool
 // feed is no digit.
 fn is_digits(text: &[u8], at: usize) -> bool
     requires { at ≤ length text.now }
-    ensures { result ≡ isDigits (line_at text.now at) }
+    ensures { result ≡ is_digits (line_at text.now at) }
 {
     if text.len() - at < one::DIGITS {
         return false;
@@ -71,7 +71,7 @@ fn is_digits(text: &[u8], at: usize) -> bool
 }
 
 fn refused(why: Refusal, start: usize, place: usize) -> Stepped
-    ensures { result ≡ record { handed = handOut (Read.Refused why) start; place = place } }
+    ensures { result ≡ record { handed = hand_out (Read.Refused why) start; place = place } }
 {
     Stepped {
         handed: Handed::Bad(BadLine { why, start }),
@@ -82,7 +82,7 @@ fn refused(why: Refusal, start: usize, place: usize) -> Stepped
 // The length of a line that is not 18 digits decides why it is refused.
 fn bad_line(text: &[u8], at: usize) -> Stepped
     requires at_in_bounds { at < length text.now }
-    requires at_value { isDigits (line_at text.now at) ≡ false }
+    requires at_value { is_digits (line_at text.now at) ≡ false }
     ensures { result ≡ next_at text.now at }
 {
     let end = lines::line_end(text, at);

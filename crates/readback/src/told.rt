@@ -1,6 +1,6 @@
 // What a program in another language is told.
 ghost use Rattle.std.specs.Prelude.{◌≡◌};
-ghost use Rattle.readback.specs.Told.{statusOf, recordLeft, turn, turnBy};
+ghost use Rattle.readback.specs.Told.{status_of, record_left, turn, turn_by};
 
 use crate::judge;
 use crate::judge::Read;
@@ -8,7 +8,7 @@ use crate::reader::{Handed, Stepped};
 
 // Returns the status. The record goes in as five numbers; a refusal leaves them as they were.
 pub fn tell(read: Read, record: &mut [u16; 5]) -> u8
-    ensures { (result ≡ statusOf read) × («record».new ≡ recordLeft read «record».old) }
+    ensures { (result ≡ status_of read) × («record».new ≡ record_left read «record».old) }
 {
     match read {
         Read::Record(a) => {
@@ -27,7 +27,7 @@ pub fn tell_next(
     record: &mut [u16; 5],
     start: &mut usize,
 ) -> u8
-    ensures { turn result place.new «record».new start.new ≡ turnBy stepped.handed stepped.place place.old «record».old start.old }
+    ensures { turn result place.new «record».new start.new ≡ turn_by stepped.handed stepped.place place.old «record».old start.old }
 {
     let handed = stepped.handed;
     match handed {

@@ -3,12 +3,12 @@ use mathlib.Core.{Path.◌≡◌, Path.refl, Bool.Bool, Bool.true, Bool.false, B
 use Prim.Native.Nat.{ℕ}
 use lib.Dec.{eqb}
 use Rattle.numbers.specs.Numbers.{is_set}
-use Rattle.registers.specs.Over.{byOp}
+use Rattle.registers.specs.Over.{by_op}
 
 -- of an 8-bit divide's it may be known from the op and the mode alone
-pub by-op : (op mode multiply8 multiply16 divide8 divide16 adjust : ℕ) (P : ℕ → Type 0) → P multiply8 → P multiply16 → (eqb op 0x11 ≡ true → is_set 0 mode ≡ false → P divide8) → P divide16
-    → P adjust → P (byOp op mode multiply8 multiply16 divide8 divide16 adjust)
-by-op op mode multiply8 multiply16 divide8 divide16 adjust P m8 m16 d8 d16 a = by (eqb op 0x10) (eqb op 0x11) (is_set 0 mode) d8
+pub by_op_lem : (op mode multiply8 multiply16 divide8 divide16 adjust : ℕ) (P : ℕ → Type 0) → P multiply8 → P multiply16 → (eqb op 0x11 ≡ true → is_set 0 mode ≡ false → P divide8) → P divide16
+    → P adjust → P (by_op op mode multiply8 multiply16 divide8 divide16 adjust)
+by_op_lem op mode multiply8 multiply16 divide8 divide16 adjust P m8 m16 d8 d16 a = by (eqb op 0x10) (eqb op 0x11) (is_set 0 mode) d8
   where
     by : (m d w : Bool) → (d ≡ true → w ≡ false → P divide8) → P (cond m (cond w multiply16 multiply8) (cond d (cond w divide16 divide8) adjust))
     by true d true h = m16

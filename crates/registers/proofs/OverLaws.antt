@@ -6,48 +6,48 @@ use lib.Dec.{ltb, eqb}
 use borrow.Author.Tests.{eqb-true}
 use Rattle.numbers.specs.Numbers.{is_set}
 use Rattle.flags.specs.Word.{flags_of}
-use Rattle.request.specs.{Operation.ops, Operation.listed, Operation.mode_of, Operation.operationOf, Judge.raw, Judge.requestOf, Judge.judgedBy, Judge.judged, Limits.inLimits}
+use Rattle.request.specs.{Operation.ops, Operation.listed, Operation.mode_of, Operation.operation_of, Judge.raw, Judge.request_of, Judge.judged_by, Judge.judged, Limits.in_limits}
 use Rattle.request.specs.{Judge.Admitted, Judge.TooLarge, declared.decode.Decoded.TheVariants.Operation as Names, declared.decode.Decoded.TheVariants.WrongMode}
 use Rattle.request.specs.declared.operation.Operation.TheVariants.{Divide}
-use Rattle.answer.specs.{Charted.charted, Asked.ofJudged, Asked.asked, declared.answer.Answer.Answer}
+use Rattle.answer.specs.{Charted.charted, Asked.of_judged, Asked.asked, declared.answer.Answer.Answer}
 use Rattle.answer.proofs.Width.{divided-fits}
-use Rattle.registers.specs.Over.{is_over, read_by, axBy, dxBy, stays, settled_of, settledBy, requestOver, over}
+use Rattle.registers.specs.Over.{is_over, read_by, ax_by, dx_by, stays, settled_of, settled_by, request_over, over}
 use Rattle.registers.specs.{declared.record.Registers.Registers, declared.record.Settled.Settled}
-use Rattle.registers.proofs.OpLaws.{by-op}
+use Rattle.registers.proofs.OpLaws.{by_op_lem}
 
 -- an op that does not work on the record
-pub not-over : (op mode y : ℕ) (r : Registers) → is_over op ≡ false → over op mode y r ≡ stays 3 r
+pub not_over : (op mode y : ℕ) (r : Registers) → is_over op ≡ false → over op mode y r ≡ stays 3 r
 unfolding over
-not-over op mode y r e = rw e
+not_over op mode y r e = rw e
 
 -- one that does, by its answer and by what AX and DX take
-pub over-is : (op mode y : ℕ) (r : Registers) → is_over op ≡ true → {a : Answer} → a ≡ asked (requestOver op mode y r) → {ax dx : ℕ} → ax ≡ axBy op mode a → dx ≡ dxBy op mode r.dx a
+pub over_is : (op mode y : ℕ) (r : Registers) → is_over op ≡ true → {a : Answer} → a ≡ asked (request_over op mode y r) → {ax dx : ℕ} → ax ≡ ax_by op mode a → dx ≡ dx_by op mode r.dx a
     → {o : Settled} → o ≡ settled_of r a ax dx → o ≡ over op mode y r
 unfolding over
-over-is op mode y r e {a} ea eax edx eo = eo ∙ rw e ((λ i. settled_of r a (eax i) (edx i)) ∙ ap (settledBy op mode r) ea)
+over_is op mode y r e {a} ea eax edx eo = eo ∙ rw e ((λ i. settled_of r a (eax i) (edx i)) ∙ ap (settled_by op mode r) ea)
 
 -- the results of an 8-bit divide are bytes
-pub divided-bytes : (mode w x y : ℕ) → is_set 0 mode ≡ false → ((asked (raw 0x11 mode w x y)).r < 0x100) × ((asked (raw 0x11 mode w x y)).s < 0x100)
-unfolding asked judged operationOf listed ops charted
-divided-bytes mode w x y e = by_mode (ltb 0x07 mode)
+pub divided_bytes : (mode w x y : ℕ) → is_set 0 mode ≡ false → ((asked (raw 0x11 mode w x y)).r < 0x100) × ((asked (raw 0x11 mode w x y)).s < 0x100)
+unfolding asked judged operation_of listed ops charted
+divided_bytes mode w x y e = by_mode (ltb 0x07 mode)
   where
-    of-limits : (k : Bool) → let a = ofJudged (cond k (Admitted (requestOf (Divide (mode_of mode)) (raw 0x11 mode w x y))) TooLarge) in (a.r < 0x100) × (a.s < 0x100)
-    of-limits true = rw e (divided-fits 8 (is_set 1 mode) (is_set 2 mode) x y (flags_of w))
-    of-limits false = (omega arith, omega arith)
+    of_limits : (k : Bool) → let a = of_judged (cond k (Admitted (request_of (Divide (mode_of mode)) (raw 0x11 mode w x y))) TooLarge) in (a.r < 0x100) × (a.s < 0x100)
+    of_limits true = rw e (divided-fits 8 (is_set 1 mode) (is_set 2 mode) x y (flags_of w))
+    of_limits false = (omega arith, omega arith)
 
-    by_mode : (m : Bool) → let a = ofJudged (judgedBy (cond m WrongMode (Names (Divide (mode_of mode)))) (raw 0x11 mode w x y)) in (a.r < 0x100) × (a.s < 0x100)
+    by_mode : (m : Bool) → let a = of_judged (judged_by (cond m WrongMode (Names (Divide (mode_of mode)))) (raw 0x11 mode w x y)) in (a.r < 0x100) × (a.s < 0x100)
     by_mode true = (omega arith, omega arith)
-    by_mode false = of-limits (inLimits (Divide (mode_of mode)) w x y)
+    by_mode false = of_limits (in_limits (Divide (mode_of mode)) w x y)
 
 -- so AX has room for what it takes
-pub ax-fits : (op mode y : ℕ) (r : Registers) {a : Answer} → a ≡ asked (requestOver op mode y r) → a.r ≤ 0xFFFF → a.s ≤ 0xFFFF → axBy op mode a < 0x1_0000
-ax-fits op mode y r {a} ea hr hs =
-    by-op op mode a.r a.s (a.s * 0x100 + a.r) a.r a.r (λ n. n < 0x1_0000) (omega arith) (omega arith) bytes (omega arith) (omega arith)
+pub ax_fits : (op mode y : ℕ) (r : Registers) {a : Answer} → a ≡ asked (request_over op mode y r) → a.r ≤ 0xFFFF → a.s ≤ 0xFFFF → ax_by op mode a < 0x1_0000
+ax_fits op mode y r {a} ea hr hs =
+    by_op_lem op mode a.r a.s (a.s * 0x100 + a.r) a.r a.r (λ n. n < 0x1_0000) (omega arith) (omega arith) bytes (omega arith) (omega arith)
   where
     asks : eqb op 0x11 ≡ true → a ≡ asked (raw 0x11 mode r.flags (read_by op mode r.ax r.dx) y)
     asks e = ea ∙ ap (λ (k : ℕ). asked (raw k mode r.flags (read_by op mode r.ax r.dx) y)) (eqb-true op 0x11 e)
 
     bytes : eqb op 0x11 ≡ true → is_set 0 mode ≡ false → a.s * 0x100 + a.r < 0x1_0000
     bytes e w =
-        let small = subst (λ (q : Answer). (q.r < 0x100) × (q.s < 0x100)) (sym (asks e)) (divided-bytes mode r.flags (read_by op mode r.ax r.dx) y w) in
+        let small = subst (λ (q : Answer). (q.r < 0x100) × (q.s < 0x100)) (sym (asks e)) (divided_bytes mode r.flags (read_by op mode r.ax r.dx) y w) in
         omega (arith, small.0, small.1)

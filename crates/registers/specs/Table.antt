@@ -2,18 +2,18 @@
 use Rattle.std.specs.Prelude.{Bool, not, List, [], ◌∷◌, ℕ, ◌+◌, ltb}
 use Rattle.divide.specs.declared.div.Refusal.TheVariants.{ZeroDivisor, TooWide, SignRange}
 use Rattle.answer.specs.Asked.{Raw, asked}
-use Rattle.answer.specs.Table.{wrongMode, tooLarge, refusedFor}
+use Rattle.answer.specs.Table.{wrong_mode, too_large, refused_for}
 use Rattle.registers.specs.Over.{is_over}
 use Rattle.registers.specs.declared.record.Registers.{Registers}
 
 -- q is its request: the op does not work on the record; 4 and 5 as for any request; the total would pass 4,294,967,295; a divide is refused
-abbrev pub overRows : Registers → Raw → List (ℕ × Bool)
-overRows r q =
+abbrev pub over_rows : Registers → Raw → List (ℕ × Bool)
+over_rows r q =
     (3, not (is_over q.op))
-    ∷ (4, wrongMode q.op q.mode)
-    ∷ (5, tooLarge q)
+    ∷ (4, wrong_mode q.op q.mode)
+    ∷ (5, too_large q)
     ∷ (10, ltb 4_294_967_295 (r.total + (asked q).steps))
-    ∷ (6, refusedFor ZeroDivisor q)
-    ∷ (8, refusedFor TooWide q)
-    ∷ (9, refusedFor SignRange q)
+    ∷ (6, refused_for ZeroDivisor q)
+    ∷ (8, refused_for TooWide q)
+    ∷ (9, refused_for SignRange q)
     ∷ []

@@ -2,7 +2,7 @@
 use Rattle.std.specs.Prelude.{◌≡◌, [], ◌∷◌, ℕ, ◌+◌}
 use Rattle.numbers.specs.Rows.{OneOf}
 use Rattle.answer.specs.declared.answer.Answer.{Answer}
-use Rattle.registers.specs.Over.{axBy, dxBy, registersOf}
+use Rattle.registers.specs.Over.{ax_by, dx_by, registers_of}
 use Rattle.registers.specs.declared.record.Registers.{Registers}
 use Rattle.registers.specs.declared.record.Settled.{Settled}
 
@@ -11,6 +11,6 @@ use Rattle.registers.specs.declared.record.Settled.{Settled}
 pub record Tied (op mode : ℕ) (r : Registers) (a : Answer) (o : Settled) : Type 0 where
   pub status : o.status ≡ a.status
   pub steps : o.steps ≡ a.steps
-  pub done : a.status ≡ 0 → o.regs ≡ registersOf (axBy op mode a) (dxBy op mode r.dx a) a.flags (r.total + a.steps)
-  pub refused : OneOf a.status (6 ∷ 8 ∷ 9 ∷ []) → o.regs ≡ registersOf r.ax r.dx a.flags (r.total + a.steps)
+  pub done : a.status ≡ 0 → o.regs ≡ registers_of (ax_by op mode a) (dx_by op mode r.dx a) a.flags (r.total + a.steps)
+  pub refused : OneOf a.status (6 ∷ 8 ∷ 9 ∷ []) → o.regs ≡ registers_of r.ax r.dx a.flags (r.total + a.steps)
   pub stayed : OneOf a.status (4 ∷ 5 ∷ []) → o.regs ≡ r

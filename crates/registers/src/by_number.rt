@@ -1,6 +1,6 @@
 // An operation over the record, given as numbers that no caller has checked.
 ghost use Rattle.std.specs.Prelude.{◌≡◌, ◌<◌};
-ghost use Rattle.registers.specs.Over.{is_over, byOp, read_by, axBy, dxBy, over, registersOf, settledAs};
+ghost use Rattle.registers.specs.Over.{is_over, by_op, read_by, ax_by, dx_by, over, registers_of, settled_as};
 
 use crate::count;
 use answer::answer::Answer;
@@ -25,7 +25,7 @@ fn by_op(
     divide16: u32,
     adjust: u32,
 ) -> u32
-    ensures { result ≡ byOp op mode multiply8 multiply16 divide8 divide16 adjust }
+    ensures { result ≡ by_op op mode multiply8 multiply16 divide8 divide16 adjust }
 {
     let word = mode & 0x01 != 0;
     if op == 0x10 {
@@ -53,8 +53,8 @@ fn read(op: u8, mode: u8, ax: u16, dx: u16) -> u32
 
 // The results of an 8-bit divide are bytes, so that AX has room for both.
 fn ax_taken(op: u8, mode: u8, a: Answer) -> u16
-    requires { axBy op mode a < 0x1_0000 }
-    ensures { result ≡ axBy op mode a }
+    requires { ax_by op mode a < 0x1_0000 }
+    ensures { result ≡ ax_by op mode a }
 {
     let r = a.r as u32;
     let s = a.s as u32;
@@ -62,7 +62,7 @@ fn ax_taken(op: u8, mode: u8, a: Answer) -> u16
 }
 
 fn dx_taken(op: u8, mode: u8, dx: u16, a: Answer) -> u16
-    ensures { result ≡ dxBy op mode dx a }
+    ensures { result ≡ dx_by op mode dx a }
 {
     let dx = dx as u32;
     by_op(op, mode, dx, a.r as u32, dx, a.s as u32, dx) as u16
@@ -79,7 +79,7 @@ pub fn operate(
     total: &mut u32,
     steps: &mut u16,
 ) -> u8
-    ensures { settledAs result steps.new (registersOf ax.new dx.new flags.new total.new) ≡ over op mode y (registersOf ax.old dx.old flags.old total.old) }
+    ensures { settled_as result steps.new (registers_of ax.new dx.new flags.new total.new) ≡ over op mode y (registers_of ax.old dx.old flags.old total.old) }
 {
     if !is_over(op) {
         *steps = 0;

@@ -3,12 +3,12 @@ use Rattle.std.specs.Prelude.{ℕ, Bool, true, false, cond, List, [], ◌∷◌,
 use Rattle.line.specs.One.{text_of}
 
 -- whether two texts are the same, byte by byte
-abbrev pub sameText : List ℕ → List ℕ → Bool
-sameText [] [] = true
-sameText [] (b ∷ t) = false
-sameText (a ∷ s) [] = false
-sameText (a ∷ s) (b ∷ t) = cond (a == b) (sameText s t) false
+abbrev pub same_text : List ℕ → List ℕ → Bool
+same_text [] [] = true
+same_text [] (b ∷ t) = false
+same_text (a ∷ s) [] = false
+same_text (a ∷ s) (b ∷ t) = cond (a == b) (same_text s t) false
 
 -- whether the digits are those of the answer that the request gets; a record that ends before its request is wrong
 unfoldable pub right : List ℕ → Bool
-right line = cond (nat_lt (length line) 19) false (sameText (take 18 line) (take 18 (text_of (drop 19 line))))
+right line = cond (nat_lt (length line) 19) false (same_text (take 18 line) (take 18 (text_of (drop 19 line))))

@@ -2,7 +2,7 @@
 // record: the answer's 18 digits, a space, and the request as it was sent, up to the line feed.
 ghost use Rattle.std.specs.Prelude.{◌≡◌, ◌≤◌, length, take, drop, if◌then◌else◌};
 ghost use Rattle.replay.specs.Record.{right};
-ghost use Rattle.replay.specs.Counted.{countOn};
+ghost use Rattle.replay.specs.Counted.{count_on};
 
 use libc::{STDIN_FILENO, STDOUT_FILENO};
 
@@ -44,7 +44,7 @@ pub struct Replayed {
 
 // Replays the records that the block holds whole, and counts on.
 fn replay(block: &[u8], before: Replayed) -> Replayed
-    ensures { result ≡ countOn before block.now }
+    ensures { result ≡ count_on before block.now }
 {
     let mut records = before.records;
     let mut differ = before.differ;
@@ -75,7 +75,7 @@ pub struct Kept {
 // Replays the first `have` bytes and keeps what is left of them.
 fn replay_block(buffer: &mut [u8], have: usize, more: bool, before: Replayed) -> Kept
     requires { have ≤ length buffer.old }
-    ensures kept_in_bounds { (result.kept ≤ length buffer.old) × (result.replayed ≡ countOn before (take have buffer.old)) }
+    ensures kept_in_bounds { (result.kept ≤ length buffer.old) × (result.replayed ≡ count_on before (take have buffer.old)) }
     ensures buffer_after { take result.kept buffer.new ≡ drop result.replayed.used (take have buffer.old) }
 {
     let replayed = replay(&buffer[..have], before);

@@ -6,10 +6,10 @@ use native.Mathlib.Omega.{arith}
 use lib.Dec.{leb, eqb}
 use borrow.Author.Tests.{ne_eqb, lt-ltb, leb-true, leb-false}
 use Rattle.numbers.proofs.BoolLaws.{both, or_right}
-use Rattle.flags.specs.Word.{isFlags}
-use Rattle.request.specs.Operation.{Listed, AluOp, Multiply, Divide, DecimalOp, Unlisted, ops, lookup, listed, checked, operationOf, aluOnly, aluAt}
-use Rattle.request.specs.Limits.{xMost, yMost, inLimits, InRange}
-use Rattle.request.specs.{Judge.requestOf, Judge.judgedBy, Judge.judged, Judge.Judged, Judge.Admitted, Judge.TooLarge, declared.raw.Raw.Raw, declared.operation.Width.Width}
+use Rattle.flags.specs.Word.{is_flags}
+use Rattle.request.specs.Operation.{Listed, AluOp, Multiply, Divide, DecimalOp, Unlisted, ops, lookup, listed, checked, operation_of, alu_only, alu_at}
+use Rattle.request.specs.Limits.{x_most, y_most, in_limits, InRange}
+use Rattle.request.specs.{Judge.request_of, Judge.judged_by, Judge.judged, Judge.Judged, Judge.Admitted, Judge.TooLarge, declared.raw.Raw.Raw, declared.operation.Width.Width}
 use Rattle.request.specs.{declared.operation.Alu.Alu, declared.operation.Operation.Operation}
 use Rattle.request.specs.declared.operation.Operation.TheVariants.{Alu as OfAlu, Multiply as OfMultiply, Divide as OfDivide, Decimal as OfDecimal}
 use Rattle.request.specs.declared.decode.Decoded.{Decoded}
@@ -55,14 +55,14 @@ over Divide mode h = rw (lt-ltb 0x07 mode h)
 over (DecimalOp decimal) mode h = rw (lt-ltb 0x00 mode (omega arith))
 over Unlisted mode h = refl
 
-pub wrong-mode : (op mode : ℕ) → 0x07 < mode → operationOf op 0x08 ≡ operationOf op mode
-unfolding operationOf
-wrong-mode op mode h = over (listed op) mode h
+pub wrong_mode_lem : (op mode : ℕ) → 0x07 < mode → operation_of op 0x08 ≡ operation_of op mode
+unfolding operation_of
+wrong_mode_lem op mode h = over (listed op) mode h
 
 -- ---- op and mode as one number
 
-pub at_key : (op mode : ℕ) {key : ℕ} → mode ≤ 0x07 → op * 8 + mode ≡ key → operationOf (key / 8) (key % 8) ≡ operationOf op mode
-at_key op mode h e = ap₂ operationOf (omega arith) (omega arith)
+pub at_key : (op mode : ℕ) {key : ℕ} → mode ≤ 0x07 → op * 8 + mode ≡ key → operation_of (key / 8) (key % 8) ≡ operation_of op mode
+at_key op mode h e = ap₂ operation_of (omega arith) (omega arith)
 
 -- one of the keys of a match
 abbrev pub member : ℕ → List ℕ → Bool
@@ -83,33 +83,33 @@ none_of N key [] m = refl
 none_of N key (k ∷ ks) m = rw (ne_eqb key k (before key ks m).1) (none_of (N × (key ≡ k → ⊥)) key ks m)
 
 -- the keys of the ALU operations, and those of the others
-abbrev pub aluKeys : List ℕ
-aluKeys =
+abbrev pub alu_keys : List ℕ
+alu_keys =
     0x00 ∷ 0x01 ∷ 0x08 ∷ 0x09 ∷ 0x10 ∷ 0x11 ∷ 0x18 ∷ 0x19 ∷ 0x20 ∷ 0x21 ∷ 0x28 ∷ 0x29 ∷ 0x30 ∷ 0x31 ∷ 0x38 ∷ 0x39 ∷ 0x40 ∷ 0x41 ∷ 0x48 ∷ 0x49 ∷ 0x50 ∷ 0x51 ∷ 0x58 ∷ 0x59 ∷ 0x60 ∷ 0x61 ∷ []
 
-abbrev pub otherKeys : List ℕ
-otherKeys =
+abbrev pub other_keys : List ℕ
+other_keys =
     0x80 ∷ 0x81 ∷ 0x82 ∷ 0x83 ∷ 0x84 ∷ 0x85 ∷ 0x86 ∷ 0x87 ∷ 0x88 ∷ 0x89 ∷ 0x8A ∷ 0x8B ∷ 0x8C ∷ 0x8D ∷ 0x8E ∷ 0x8F ∷ 0xC0 ∷ 0xC8 ∷ 0xD0 ∷ 0xD8 ∷ 0xE0 ∷ []
 
-abbrev isNothing : AluAt → Bool
-isNothing (Named alu w) = false
-isNothing Nothing = true
+abbrev is_nothing : AluAt → Bool
+is_nothing (Named alu w) = false
+is_nothing Nothing = true
 
-nothing : (a : AluAt) → isNothing a ≡ true → Nothing ≡ a
+nothing : (a : AluAt) → is_nothing a ≡ true → Nothing ≡ a
 nothing (Named alu w) e = absurd (false≢true e)
 nothing Nothing e = refl
 
 -- the same refusal
-abbrev pub sameRefusal : Decoded → Decoded → Bool
-sameRefusal NotListed NotListed = true
-sameRefusal NotListed WrongMode = false
-sameRefusal NotListed (Names o) = false
-sameRefusal WrongMode WrongMode = true
-sameRefusal WrongMode NotListed = false
-sameRefusal WrongMode (Names o) = false
-sameRefusal (Names o) n = false
+abbrev pub same_refusal : Decoded → Decoded → Bool
+same_refusal NotListed NotListed = true
+same_refusal NotListed WrongMode = false
+same_refusal NotListed (Names o) = false
+same_refusal WrongMode WrongMode = true
+same_refusal WrongMode NotListed = false
+same_refusal WrongMode (Names o) = false
+same_refusal (Names o) n = false
 
-same : (m n : Decoded) → sameRefusal m n ≡ true → m ≡ n
+same : (m n : Decoded) → same_refusal m n ≡ true → m ≡ n
 same NotListed NotListed e = refl
 same NotListed WrongMode e = absurd (false≢true e)
 same NotListed (Names o) e = absurd (false≢true e)
@@ -119,99 +119,99 @@ same WrongMode (Names o) e = absurd (false≢true e)
 same (Names o) n e = absurd (false≢true e)
 
 -- the refusal of every op from one to another, by computation
-pub refuses : (r : Decoded) (start n : ℕ) → below (λ k. sameRefusal r (operationOf (start + k) 0x08)) n ≡ true → (op : ℕ) → start ≤ op → op < start + n
-    → r ≡ operationOf op 0x08
+pub refuses : (r : Decoded) (start n : ℕ) → below (λ k. same_refusal r (operation_of (start + k) 0x08)) n ≡ true → (op : ℕ) → start ≤ op → op < start + n
+    → r ≡ operation_of op 0x08
 refuses r start n h op l u =
     let back : start + (op - start) ≡ op = omega arith in
-    same r (operationOf op 0x08)
-    (subst (λ (j : ℕ). sameRefusal r (operationOf j 0x08) ≡ true) back (at (λ k. sameRefusal r (operationOf (start + k) 0x08)) n h (op - start) (omega arith)))
+    same r (operation_of op 0x08)
+    (subst (λ (j : ℕ). same_refusal r (operation_of j 0x08) ≡ true) back (at (λ k. same_refusal r (operation_of (start + k) 0x08)) n h (op - start) (omega arith)))
 
-pub refuses-above : (op : ℕ) → 0x1D ≤ op → NotListed ≡ operationOf op 0x08
-unfolding operationOf
-refuses-above op h = rw (← above op (omega arith))
+pub refuses_above : (op : ℕ) → 0x1D ≤ op → NotListed ≡ operation_of op 0x08
+unfolding operation_of
+refuses_above op h = rw (← above op (omega arith))
 
 -- at every key below E8, by computation: an ALU operation has an ALU key; what has neither key is refused, whatever the mode
-abbrev aluTest : ℕ → Bool
-aluTest key = member key aluKeys || isNothing (aluAt key)
+abbrev alu_test : ℕ → Bool
+alu_test key = member key alu_keys || is_nothing (alu_at key)
 
-abbrev otherTest : ℕ → Bool
-otherTest key = not (isNothing (aluAt key)) || (member key otherKeys || sameRefusal (operationOf (key / 8) 0x08) (operationOf (key / 8) (key % 8)))
+abbrev other_test : ℕ → Bool
+other_test key = not (is_nothing (alu_at key)) || (member key other_keys || same_refusal (operation_of (key / 8) 0x08) (operation_of (key / 8) (key % 8)))
 
-alu-computed : below aluTest 0xE8 ≡ true
-unfolding aluAt operationOf listed ops
-alu-computed = refl
+alu_computed : below alu_test 0xE8 ≡ true
+unfolding alu_at operation_of listed ops
+alu_computed = refl
 
-other-computed : below otherTest 0xE8 ≡ true
-unfolding aluAt operationOf listed ops
-other-computed = refl
+other_computed : below other_test 0xE8 ≡ true
+unfolding alu_at operation_of listed ops
+other_computed = refl
 
--- a key that is an arm's is what the arm says, as `aluAt` computes
-pub at-alu : {key k : ℕ} → key ≡ k → aluAt k ≡ aluAt key
-at-alu e = ap aluAt (sym e)
+-- a key that is an arm's is what the arm says, as `alu_at` computes
+pub at_alu : {key k : ℕ} → key ≡ k → alu_at k ≡ alu_at key
+at_alu e = ap alu_at (sym e)
 
 -- no ALU key: no ALU operation
-pub no-alu : (key : ℕ) → member key aluKeys ≡ false → Nothing ≡ aluAt key
-unfolding aluAt operationOf
-no-alu key h = by (leb key 0xE7) refl
+pub no_alu : (key : ℕ) → member key alu_keys ≡ false → Nothing ≡ alu_at key
+unfolding alu_at operation_of
+no_alu key h = by (leb key 0xE7) refl
   where
-    by : (k : Bool) → leb key 0xE7 ≡ k → Nothing ≡ aluAt key
+    by : (k : Bool) → leb key 0xE7 ≡ k → Nothing ≡ alu_at key
     by true e =
-        nothing (aluAt key) (or_right (member key aluKeys) (isNothing (aluAt key)) h (at aluTest 0xE8 alu-computed key (omega (arith, leb-true key 0xE7 e))))
+        nothing (alu_at key) (or_right (member key alu_keys) (is_nothing (alu_at key)) h (at alu_test 0xE8 alu_computed key (omega (arith, leb-true key 0xE7 e))))
     by false e = rw (← above (key / 8) (omega (arith, leb-false key 0xE7 e)))
 
 -- an ALU operation, told by its key
-pub alu-named : (n : Decoded) {a : Alu} {w : Width} → Named a w ≡ aluOnly n → Names (OfAlu a w) ≡ n
-alu-named (Names (OfAlu alu v)) e = cc
-alu-named (Names (OfMultiply m)) e = absurd (let z : ◌≡◌ {A = ℕ} 0 1 = cc in omega arith)
-alu-named (Names (OfDivide m)) e = absurd (let z : ◌≡◌ {A = ℕ} 0 1 = cc in omega arith)
-alu-named (Names (OfDecimal d)) e = absurd (let z : ◌≡◌ {A = ℕ} 0 1 = cc in omega arith)
-alu-named NotListed e = absurd (let z : ◌≡◌ {A = ℕ} 0 1 = cc in omega arith)
-alu-named WrongMode e = absurd (let z : ◌≡◌ {A = ℕ} 0 1 = cc in omega arith)
+pub alu_named : (n : Decoded) {a : Alu} {w : Width} → Named a w ≡ alu_only n → Names (OfAlu a w) ≡ n
+alu_named (Names (OfAlu alu v)) e = cc
+alu_named (Names (OfMultiply m)) e = absurd (let z : ◌≡◌ {A = ℕ} 0 1 = cc in omega arith)
+alu_named (Names (OfDivide m)) e = absurd (let z : ◌≡◌ {A = ℕ} 0 1 = cc in omega arith)
+alu_named (Names (OfDecimal d)) e = absurd (let z : ◌≡◌ {A = ℕ} 0 1 = cc in omega arith)
+alu_named NotListed e = absurd (let z : ◌≡◌ {A = ℕ} 0 1 = cc in omega arith)
+alu_named WrongMode e = absurd (let z : ◌≡◌ {A = ℕ} 0 1 = cc in omega arith)
 
-pub alu-at : (op mode : ℕ) {a : Alu} {w : Width} → mode ≤ 0x07 → Named a w ≡ aluAt (op * 8 + mode) → Names (OfAlu a w) ≡ operationOf op mode
-unfolding aluAt
-alu-at op mode h e = alu-named (operationOf ((op * 8 + mode) / 8) ((op * 8 + mode) % 8)) e ∙ at_key op mode h refl
+pub alu_at_lem : (op mode : ℕ) {a : Alu} {w : Width} → mode ≤ 0x07 → Named a w ≡ alu_at (op * 8 + mode) → Names (OfAlu a w) ≡ operation_of op mode
+unfolding alu_at
+alu_at_lem op mode h e = alu_named (operation_of ((op * 8 + mode) / 8) ((op * 8 + mode) % 8)) e ∙ at_key op mode h refl
 
 -- no ALU operation and no other key: refused
-pub no_other : (op mode : ℕ) → mode ≤ 0x07 → Nothing ≡ aluAt (op * 8 + mode) → member (op * 8 + mode) otherKeys ≡ false
-    → operationOf op 0x08 ≡ operationOf op mode
-unfolding operationOf
+pub no_other : (op mode : ℕ) → mode ≤ 0x07 → Nothing ≡ alu_at (op * 8 + mode) → member (op * 8 + mode) other_keys ≡ false
+    → operation_of op 0x08 ≡ operation_of op mode
+unfolding operation_of
 no_other op mode h a o = by (leb op 0x1C) refl
   where
     key : ℕ
     key = op * 8 + mode
 
-    by : (k : Bool) → leb op 0x1C ≡ k → operationOf op 0x08 ≡ operationOf op mode
+    by : (k : Bool) → leb op 0x1C ≡ k → operation_of op 0x08 ≡ operation_of op mode
     by true e =
-        let refused = operationOf (key / 8) 0x08 in
-        let found = operationOf (key / 8) (key % 8) in
-        let t = at otherTest 0xE8 other-computed key (omega (arith, leb-true op 0x1C e)) in
-        let u = or_right (not (isNothing (aluAt key))) (member key otherKeys || sameRefusal refused found) (ap (λ (b : AluAt). not (isNothing b)) (sym a)) t in
-        ap (λ (q : ℕ). operationOf q 0x08) (omega arith) ∙ same refused found (or_right (member key otherKeys) (sameRefusal refused found) o u) ∙ at_key op mode h refl
+        let refused = operation_of (key / 8) 0x08 in
+        let found = operation_of (key / 8) (key % 8) in
+        let t = at other_test 0xE8 other_computed key (omega (arith, leb-true op 0x1C e)) in
+        let u = or_right (not (is_nothing (alu_at key))) (member key other_keys || same_refusal refused found) (ap (λ (b : AluAt). not (is_nothing b)) (sym a)) t in
+        ap (λ (q : ℕ). operation_of q 0x08) (omega arith) ∙ same refused found (or_right (member key other_keys) (same_refusal refused found) o u) ∙ at_key op mode h refl
     by false e = rw (← above op (leb-false op 0x1C e))
 
 -- ---- the limits
 
 -- what is within its limits is in its ranges
-pub in-range : (o : Operation) (f x y : ℕ) → inLimits o f x y ≡ true → InRange o x y
-in-range o f x y e =
-    let p = both (leb x (xMost o) && leb y (yMost o)) (isFlags f) e in
-    let q = both (leb x (xMost o)) (leb y (yMost o)) p.0 in
-    (leb-true x (xMost o) q.0, leb-true y (yMost o) q.1)
+pub in_range_lem : (o : Operation) (f x y : ℕ) → in_limits o f x y ≡ true → InRange o x y
+in_range_lem o f x y e =
+    let p = both (leb x (x_most o) && leb y (y_most o)) (is_flags f) e in
+    let q = both (leb x (x_most o)) (leb y (y_most o)) p.0 in
+    (leb-true x (x_most o) q.0, leb-true y (y_most o) q.1)
 
 -- so is what is admitted
-pub admitted-in-range : (given : Raw) {j : Judged} {r : Request} → j ≡ judged given → j ≡ Admitted r → InRange r.operation r.x r.y
+pub admitted_in_range : (given : Raw) {j : Judged} {r : Request} → j ≡ judged given → j ≡ Admitted r → InRange r.operation r.x r.y
 unfolding judged
-admitted-in-range given {r = r} e told = by (operationOf given.op given.mode) (sym told ∙ e)
+admitted_in_range given {r = r} e told = by (operation_of given.op given.mode) (sym told ∙ e)
   where
-    tested : (o : Operation) (a : Bool) → inLimits o given.flags given.x given.y ≡ a
-        → Admitted r ≡ cond a (Admitted (requestOf o given)) TooLarge → InRange r.operation r.x r.y
+    tested : (o : Operation) (a : Bool) → in_limits o given.flags given.x given.y ≡ a
+        → Admitted r ≡ cond a (Admitted (request_of o given)) TooLarge → InRange r.operation r.x r.y
     tested o true ea e =
-        let same : r ≡ requestOf o given = cc in
-        subst (λ (q : Request). InRange q.operation q.x q.y) (sym same) (in-range o given.flags given.x given.y ea)
+        let same : r ≡ request_of o given = cc in
+        subst (λ (q : Request). InRange q.operation q.x q.y) (sym same) (in_range_lem o given.flags given.x given.y ea)
     tested o false ea e = let z : ◌≡◌ {A = ℕ} 0 1 = cc in absurd (omega arith)
 
-    by : (n : Decoded) → Admitted r ≡ judgedBy n given → InRange r.operation r.x r.y
-    by (Names o) e = tested o (inLimits o given.flags given.x given.y) refl e
+    by : (n : Decoded) → Admitted r ≡ judged_by n given → InRange r.operation r.x r.y
+    by (Names o) e = tested o (in_limits o given.flags given.x given.y) refl e
     by NotListed e = let z : ◌≡◌ {A = ℕ} 0 1 = cc in absurd (omega arith)
     by WrongMode e = let z : ◌≡◌ {A = ℕ} 0 1 = cc in absurd (omega arith)

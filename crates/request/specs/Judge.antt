@@ -4,8 +4,8 @@ use Rattle.std.specs.Prelude.{cond, ℕ}
 use Rattle.request.specs.declared.operation.Operation.{Operation}
 use Rattle.request.specs.declared.decode.Decoded.{Decoded}
 use Rattle.request.specs.declared.decode.Decoded.TheVariants.{Operation as Names, Unlisted as NotListed, WrongMode as BadMode}
-use Rattle.request.specs.Operation.{operationOf}
-use Rattle.request.specs.Limits.{inLimits}
+use Rattle.request.specs.Operation.{operation_of}
+use Rattle.request.specs.Limits.{in_limits}
 use Rattle.request.specs.declared.raw.Raw.{Raw}
 use Rattle.request.specs.declared.raw.Request.{Request}
 
@@ -21,15 +21,15 @@ abbrev pub raw : ℕ → ℕ → ℕ → ℕ → ℕ → Raw
 raw op mode flags x y = record { op = op; mode = mode; flags = flags; x = x; y = y }
 
 -- a request in memory
-abbrev pub requestOf : Operation → Raw → Request
-requestOf operation r = record { operation = operation; flags = r.flags; x = r.x; y = r.y }
+abbrev pub request_of : Operation → Raw → Request
+request_of operation r = record { operation = operation; flags = r.flags; x = r.x; y = r.y }
 
 -- status 5 where something is too large
-abbrev pub judgedBy : Decoded → Raw → Judged
-judgedBy (Names operation) r = cond (inLimits operation r.flags r.x r.y) (Admitted (requestOf operation r)) TooLarge
-judgedBy NotListed r = Unlisted
-judgedBy BadMode r = WrongMode
+abbrev pub judged_by : Decoded → Raw → Judged
+judged_by (Names operation) r = cond (in_limits operation r.flags r.x r.y) (Admitted (request_of operation r)) TooLarge
+judged_by NotListed r = Unlisted
+judged_by BadMode r = WrongMode
 
 -- by op and mode, then by the limits
 unfoldable pub judged : Raw → Judged
-judged r = judgedBy (operationOf r.op r.mode) r
+judged r = judged_by (operation_of r.op r.mode) r

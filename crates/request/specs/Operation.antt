@@ -74,20 +74,20 @@ checked (DecimalOp decimal) mode = cond (ltb 0x00 mode) WrongMode (Names (OfDeci
 checked Unlisted mode = NotListed
 
 -- what op and mode name
-unfoldable pub operationOf : ℕ → ℕ → Decoded
-operationOf op mode = checked (listed op) mode
+unfoldable pub operation_of : ℕ → ℕ → Decoded
+operation_of op mode = checked (listed op) mode
 
 -- for the code, which takes op and mode as one number, op * 8 + mode: the ALU operation there
-abbrev pub aluOnly : Decoded → AluAt
-aluOnly (Names (OfAlu alu w)) = Named alu w
-aluOnly (Names (OfMultiply m)) = Nothing
-aluOnly (Names (OfDivide m)) = Nothing
-aluOnly (Names (OfDecimal d)) = Nothing
-aluOnly NotListed = Nothing
-aluOnly WrongMode = Nothing
+abbrev pub alu_only : Decoded → AluAt
+alu_only (Names (OfAlu alu w)) = Named alu w
+alu_only (Names (OfMultiply m)) = Nothing
+alu_only (Names (OfDivide m)) = Nothing
+alu_only (Names (OfDecimal d)) = Nothing
+alu_only NotListed = Nothing
+alu_only WrongMode = Nothing
 
-unfoldable pub aluAt : ℕ → AluAt
-aluAt key = aluOnly (operationOf (key / 8) (key % 8))
+unfoldable pub alu_at : ℕ → AluAt
+alu_at key = alu_only (operation_of (key / 8) (key % 8))
 
 abbrev pub multiplies : Width → Bool → Bool → Decoded
 multiplies w signed rep = Names (OfMultiply (record { width = w; signed = signed; rep = rep }))

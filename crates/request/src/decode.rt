@@ -2,7 +2,7 @@
 // operation's own work by one jump. No function here returns a `Decoded` that another one passes on: the compiler
 // copies such a value as one word and can no longer follow the jump through it.
 ghost use Rattle.std.specs.Prelude.{◌≡◌};
-ghost use Rattle.request.specs.Operation.{aluAt, multiplies, divides, operationOf};
+ghost use Rattle.request.specs.Operation.{alu_at, multiplies, divides, operation_of};
 
 use crate::operation::{Alu, Decimal, Mode, Operation, Width};
 
@@ -22,7 +22,7 @@ enum AluAt {
 
 // The ALU operations. The only mode bit that they take is the width.
 fn alu_at(key: u16) -> AluAt
-    ensures { result ≡ aluAt key }
+    ensures { result ≡ alu_at key }
 {
     match key {
         0x00 => AluAt::Named(Alu::Add, Width::Byte),
@@ -69,7 +69,7 @@ fn divide(width: Width, signed: bool, rep: bool) -> Decoded
 
 // Why a key names no operation: its op is not listed, or it is and the mode does not fit it.
 fn refused(op: u8) -> Decoded
-    ensures { result ≡ operationOf op 0x08 }
+    ensures { result ≡ operation_of op 0x08 }
 {
     match op {
         0x00..=0x0C => Decoded::WrongMode,
@@ -81,7 +81,7 @@ fn refused(op: u8) -> Decoded
 
 // A multiply or divide takes width, sign rule and REP. An adjust takes no mode bit.
 pub fn decode(op: u8, mode: u8) -> Decoded
-    ensures { result ≡ operationOf op mode }
+    ensures { result ≡ operation_of op mode }
 {
     if mode > 0x07 {
         return refused(op);

@@ -1,6 +1,6 @@
 // A request as it comes in, and with its operation decoded.
 ghost use Rattle.std.specs.Prelude.{◌≡◌};
-ghost use Rattle.request.specs.Limits.{fitsIn};
+ghost use Rattle.request.specs.Limits.{fits_in};
 
 use crate::operation::Operation;
 use flags::word::Flags;
@@ -27,7 +27,7 @@ pub struct Request {
 impl Request {
     // Whether X and Y are within these limits and no flag is outside 08D5. If not, the status is 5.
     pub fn fits(self, x_most: u32, y_most: u16) -> bool
-        ensures { result ≡ fitsIn x_most y_most self.flags self.x self.y }
+        ensures { result ≡ fits_in x_most y_most self.flags self.x self.y }
     {
         (self.x <= x_most) & (self.y <= y_most) & Flags::is_flags(self.flags)
     }

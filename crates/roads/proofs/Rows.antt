@@ -4,56 +4,56 @@ use Prim.Native.Nat.{ℕ, ◌+◌, ◌^◌, ◌≤◌, ◌<◌}
 use native.Mathlib.Omega.{arith}
 use lib.{Bits.bit_and, Dec.ltb, Dec.eqb}
 use borrow.Author.Tests.{ltb-false}
-use Rattle.numbers.proofs.{BoolLaws.neither, Masks.mask-bit, Masks.set-masked, Masks.set-unmasked}
+use Rattle.numbers.proofs.{BoolLaws.neither, Masks.mask_bit, Masks.set_masked, Masks.set_unmasked}
 use Rattle.numbers.specs.Numbers.{is_set}
 use Rattle.flags.specs.{Word.flags_of, declared.word.Flags.Flags}
-use Rattle.cord.specs.Cord.{noRoads}
-use Rattle.divide.specs.Divide.{accepts, refusalOf, divide}
-use Rattle.answer.specs.{Charted.refusalStatus, Charted.ofDivided, Table.width_by, declared.answer.Answer.Answer}
-use Rattle.answer.proofs.DivideRows.{large, divide-mode, divide-large, divide-admitted}
-use Rattle.roads.specs.Told.{tallied, listed, divideBy, toldOf, toldBy, roadsBy, roadsTold}
+use Rattle.cord.specs.Cord.{no_roads}
+use Rattle.divide.specs.Divide.{accepts, refusal_of, divide}
+use Rattle.answer.specs.{Charted.refusal_status, Charted.of_divided, Table.width_by, declared.answer.Answer.Answer}
+use Rattle.answer.proofs.DivideRows.{large, divide_mode, divide_large, divide_admitted}
+use Rattle.roads.specs.Told.{tallied, listed, divide_by, told_of, told_by, roads_by, roads_told}
 
 -- a divide's own status leaves its roads as they are: they are none unless it is 0
-settled : (n : ℕ) (s rep : Bool) (d b : ℕ) (f : Flags) → toldOf (divide n s rep d b f) ≡ roadsBy (ofDivided (divide n s rep d b f)).status (divide n s rep d b f).roads
+settled : (n : ℕ) (s rep : Bool) (d b : ℕ) (f : Flags) → told_of (divide n s rep d b f) ≡ roads_by (of_divided (divide n s rep d b f)).status (divide n s rep d b f).roads
 unfolding divide
 settled n s rep d b f = by (accepts n s d b) refl
   where
-    none : (x : Bool) → listed noRoads ≡ listed (cond x noRoads noRoads)
+    none : (x : Bool) → listed no_roads ≡ listed (cond x no_roads no_roads)
     none true = refl
     none false = refl
 
-    by : (x : Bool) → accepts n s d b ≡ x → toldOf (divide n s rep d b f) ≡ roadsBy (ofDivided (divide n s rep d b f)).status (divide n s rep d b f).roads
+    by : (x : Bool) → accepts n s d b ≡ x → told_of (divide n s rep d b f) ≡ roads_by (of_divided (divide n s rep d b f)).status (divide n s rep d b f).roads
     by true e = rw e
-    by false e = rw e (ap (tallied (refusalStatus (refusalOf n s d b))) (none (eqb (refusalStatus (refusalOf n s d b)) 0)))
+    by false e = rw e (ap (tallied (refusal_status (refusal_of n s d b))) (none (eqb (refusal_status (refusal_of n s d b)) 0)))
 
 -- REP changes nothing of what is told
-rep-told : (n : ℕ) (s rep : Bool) (d b : ℕ) (f : Flags) → toldOf (divide n s rep d b f) ≡ toldOf (divide n s false d b f)
+rep_told : (n : ℕ) (s rep : Bool) (d b : ℕ) (f : Flags) → told_of (divide n s rep d b f) ≡ told_of (divide n s false d b f)
 unfolding divide
-rep-told n s rep d b f = by (accepts n s d b) refl
+rep_told n s rep d b f = by (accepts n s d b) refl
   where
-    by : (x : Bool) → accepts n s d b ≡ x → toldOf (divide n s rep d b f) ≡ toldOf (divide n s false d b f)
+    by : (x : Bool) → accepts n s d b ≡ x → told_of (divide n s rep d b f) ≡ told_of (divide n s false d b f)
     by true e = rw e
     by false e = rw e
 
 module _ (mode x y : ℕ) where
   -- a mode that no divide has
-  pub told-mode : 0x07 < mode → roadsTold mode x y ≡ tallied 4 (0 ∷ 0 ∷ [])
-  unfolding roadsTold
-  told-mode h = ap (λ (k : ℕ). roadsBy k (divideBy mode x y).roads) (divide-mode mode x y h)
+  pub told_mode : 0x07 < mode → roads_told mode x y ≡ tallied 4 (0 ∷ 0 ∷ [])
+  unfolding roads_told
+  told_mode h = ap (λ (k : ℕ). roads_by k (divide_by mode x y).roads) (divide_mode mode x y h)
 
   module _ (hm : mode ≤ 0x07) where
     -- an operand is too large
-    pub told-large : large mode x y ≡ true → roadsTold mode x y ≡ tallied 5 (0 ∷ 0 ∷ [])
-    unfolding roadsTold
-    told-large h = ap (λ (k : ℕ). roadsBy k (divideBy mode x y).roads) (divide-large mode x y hm h)
+    pub told_large : large mode x y ≡ true → roads_told mode x y ≡ tallied 5 (0 ∷ 0 ∷ [])
+    unfolding roads_told
+    told_large h = ap (λ (k : ℕ). roads_by k (divide_by mode x y).roads) (divide_large mode x y hm h)
 
     -- admitted, what the divide tells
-    pub told-admitted : x < 2 ^ (width_by mode + width_by mode) → y < 2 ^ width_by mode → roadsTold mode x y ≡ toldBy (width_by mode) (is_set 1 mode) x y
-    unfolding roadsTold
-    told-admitted hx hy =
-        ap (λ (a : Answer). roadsBy a.status (divideBy mode x y).roads) (divide-admitted mode 0 x y hm hx hy refl)
+    pub told_admitted : x < 2 ^ (width_by mode + width_by mode) → y < 2 ^ width_by mode → roads_told mode x y ≡ told_by (width_by mode) (is_set 1 mode) x y
+    unfolding roads_told
+    told_admitted hx hy =
+        ap (λ (a : Answer). roads_by a.status (divide_by mode x y).roads) (divide_admitted mode 0 x y hm hx hy refl)
         ∙ sym (settled (width_by mode) (is_set 1 mode) (is_set 2 mode) x y (flags_of 0))
-        ∙ rep-told (width_by mode) (is_set 1 mode) (is_set 2 mode) x y (flags_of 0)
+        ∙ rep_told (width_by mode) (is_set 1 mode) (is_set 2 mode) x y (flags_of 0)
 
 -- ---- how the code tells it, by the width that the mode names
 
@@ -65,16 +65,16 @@ byte_fits {x} {y} e =
 
 module _ (mode x y : ℕ) (hm : mode ≤ 0x07) where
   -- sixteen bits have room for every operand
-  pub told-word : (bit_and mode 0x01 ≡ 0 → ⊥) → x < 2 ^ 32 → y < 2 ^ 16 → toldBy 16 (not (eqb (bit_and mode 0x02) 0)) x y ≡ roadsTold mode x y
+  pub told-word : (bit_and mode 0x01 ≡ 0 → ⊥) → x < 2 ^ 32 → y < 2 ^ 16 → told_by 16 (not (eqb (bit_and mode 0x02) 0)) x y ≡ roads_told mode x y
   told-word h hx hy =
-      let wide = set-masked 0 mode h in
-      ap (λ (s : Bool). toldBy 16 s x y) (mask-bit 1 mode) ∙ sym (told-admitted mode x y hm (rw wide hx) (rw wide hy) ∙ rw wide)
+      let wide = set_masked 0 mode h in
+      ap (λ (s : Bool). told_by 16 s x y) (mask_bit 1 mode) ∙ sym (told_admitted mode x y hm (rw wide hx) (rw wide hy) ∙ rw wide)
 
   module _ (h : bit_and mode 0x01 ≡ 0) where
-    pub told-byte-large : ltb 0xFFFF x || ltb 0xFF y ≡ true → tallied 5 (0 ∷ 0 ∷ []) ≡ roadsTold mode x y
-    told-byte-large e = sym (told-large mode x y hm (rw (set-unmasked 0 mode h) e))
+    pub told_byte_large : ltb 0xFFFF x || ltb 0xFF y ≡ true → tallied 5 (0 ∷ 0 ∷ []) ≡ roads_told mode x y
+    told_byte_large e = sym (told_large mode x y hm (rw (set_unmasked 0 mode h) e))
 
-    pub told-byte : x < 2 ^ 16 → y < 2 ^ 8 → toldBy 8 (not (eqb (bit_and mode 0x02) 0)) x y ≡ roadsTold mode x y
+    pub told-byte : x < 2 ^ 16 → y < 2 ^ 8 → told_by 8 (not (eqb (bit_and mode 0x02) 0)) x y ≡ roads_told mode x y
     told-byte hx hy =
-        let narrow = set-unmasked 0 mode h in
-        ap (λ (s : Bool). toldBy 8 s x y) (mask-bit 1 mode) ∙ sym (told-admitted mode x y hm (rw narrow hx) (rw narrow hy) ∙ rw narrow)
+        let narrow = set_unmasked 0 mode h in
+        ap (λ (s : Bool). told_by 8 s x y) (mask_bit 1 mode) ∙ sym (told_admitted mode x y hm (rw narrow hx) (rw narrow hy) ∙ rw narrow)

@@ -7,30 +7,30 @@ use native.Mathlib.{Nat.div-add-mod', Omega.arith}
 use borrow.Author.Tests.{ltb-true, ltb-false, le-leb, lt-leb, eq-eqb, ne_eqb}
 use lib.Dec.{leb, ltb}
 use Rattle.cord.specs.Cord.{CordAnswer, cord}
-use Rattle.divide.specs.Divide.{accepts, applies, refusalOf, dividendOf, divisor_of, atFirst, acceptedRoads, divide}
+use Rattle.divide.specs.Divide.{accepts, applies, refusal_of, dividend_of, divisor_of, at_first, accepted_roads, divide}
 use Rattle.divide.specs.declared.div.Refusal.{Refusal}
 use Rattle.divide.specs.declared.div.Refusal.TheVariants.{ZeroDivisor, TooWide, SignRange}
-use Rattle.divide.proofs.{DivLaws.compared-first, DivLaws.first-refusal, DivLaws.later-refusal, DivLaws.known, Refusals.three-cover}
-use Rattle.answer.specs.Charted.{refusalStatus}
-use Rattle.roads.specs.Told.{Tallied, tallied, listed, toldBy}
+use Rattle.divide.proofs.{DivLaws.compared_first, DivLaws.first_refusal_lem, DivLaws.later_refusal, DivLaws.known, Refusals.three_cover}
+use Rattle.answer.specs.Charted.{refusal_status}
+use Rattle.roads.specs.Told.{Tallied, tallied, listed, told_by}
 
-told-status : {t u : Tallied} → t ≡ u → t.status ≡ u.status
-told-status e = ap (λ (w : Tallied). w.status) e
+told_status : {t u : Tallied} → t ≡ u → t.status ≡ u.status
+told_status e = ap (λ (w : Tallied). w.status) e
 
 -- no refusal has status 0
-never-zero : (why : Refusal) → refusalStatus why ≡ 0 → ⊥
-never-zero ZeroDivisor e = omega arith
-never-zero TooWide e = omega arith
-never-zero SignRange e = omega arith
+never_zero : (why : Refusal) → refusal_status why ≡ 0 → ⊥
+never_zero ZeroDivisor e = omega arith
+never_zero TooWide e = omega arith
+never_zero SignRange e = omega arith
 
 module _ (n : ℕ) (s : Bool) (d b : ℕ) where
   -- an accepted divide has status 0 and its roads
-  accepted-told : accepts n s d b ≡ true → toldBy n s d b ≡ tallied 0 (listed (acceptedRoads n s d b))
+  accepted_told : accepts n s d b ≡ true → told_by n s d b ≡ tallied 0 (listed (accepted_roads n s d b))
   unfolding divide
-  accepted-told e = rw e
+  accepted_told e = rw e
 
   -- a refused one has the status of its reason and no roads
-  refused-told : accepts n s d b ≡ false → toldBy n s d b ≡ tallied (refusalStatus (refusalOf n s d b)) (0 ∷ 0 ∷ [])
+  refused-told : accepts n s d b ≡ false → told_by n s d b ≡ tallied (refusal_status (refusal_of n s d b)) (0 ∷ 0 ∷ [])
   unfolding divide
   refused-told e = rw e
 
@@ -38,35 +38,35 @@ module _ (n : ℕ) (s : Bool) (d b : ℕ) where
 
   module _ {t : Bool} (e : t ≡ not (accepts n s d b)) where
     -- a divide is accepted where the comparison does not refuse
-    accepts-is : accepts n s d b ≡ not t
-    accepts-is = by (accepts n s d b) ∙ ap not (sym e)
+    accepts_is : accepts n s d b ≡ not t
+    accepts_is = by (accepts n s d b) ∙ ap not (sym e)
       where
         by : (x : Bool) → x ≡ not (not x)
         by true = refl
         by false = refl
 
-    pub status-accepted : not t ≡ true → 0 ≡ (toldBy n s d b).status
-    status-accepted h = told-status (sym (accepted-told (accepts-is ∙ h)))
+    pub status_accepted : not t ≡ true → 0 ≡ (told_by n s d b).status
+    status_accepted h = told_status (sym (accepted_told (accepts_is ∙ h)))
 
-    pub status-refused : not t ≡ false → {why : Refusal} → why ≡ refusalOf n s d b → refusalStatus why ≡ (toldBy n s d b).status
-    status-refused h ew = ap refusalStatus ew ∙ told-status (sym (refused-told (accepts-is ∙ h)))
+    pub status_refused : not t ≡ false → {why : Refusal} → why ≡ refusal_of n s d b → refusal_status why ≡ (told_by n s d b).status
+    status_refused h ew = ap refusal_status ew ∙ told_status (sym (refused-told (accepts_is ∙ h)))
 
   -- a divisor of 0 is the reason, whatever the dividend
-  pub zero-refused : b ≡ 0 → ZeroDivisor ≡ refusalOf n s d b
-  unfolding refusalOf
-  zero-refused h = rw (eq-eqb b 0 h)
+  pub zero_refused : b ≡ 0 → ZeroDivisor ≡ refusal_of n s d b
+  unfolding refusal_of
+  zero_refused h = rw (eq-eqb b 0 h)
 
   -- another status than 0 is told with no roads
-  pub told-refused : {k : ℕ} → k ≡ (toldBy n s d b).status → (k ≡ 0 → ⊥) → tallied k (0 ∷ 0 ∷ []) ≡ toldBy n s d b
+  pub told-refused : {k : ℕ} → k ≡ (told_by n s d b).status → (k ≡ 0 → ⊥) → tallied k (0 ∷ 0 ∷ []) ≡ told_by n s d b
   told-refused {k} e h = by (accepts n s d b) refl
     where
-      by : (x : Bool) → accepts n s d b ≡ x → tallied k (0 ∷ 0 ∷ []) ≡ toldBy n s d b
-      by true x = absurd (h (e ∙ told-status (accepted-told x)))
-      by false x = ap (λ (j : ℕ). tallied j (0 ∷ 0 ∷ [])) (e ∙ told-status (refused-told x)) ∙ sym (refused-told x)
+      by : (x : Bool) → accepts n s d b ≡ x → tallied k (0 ∷ 0 ∷ []) ≡ told_by n s d b
+      by true x = absurd (h (e ∙ told_status (accepted_told x)))
+      by false x = ap (λ (j : ℕ). tallied j (0 ∷ 0 ∷ [])) (e ∙ told_status (refused-told x)) ∙ sym (refused-told x)
 
 -- the comparison of magnitudes with no sign is CORD's first compare
-first-compare : (x y : ℕ) → not (ltb x y) ≡ leb y x
-first-compare x y = by (ltb x y) refl
+first_compare : (x y : ℕ) → not (ltb x y) ≡ leb y x
+first_compare x y = by (ltb x y) refl
   where
     by : (t : Bool) → ltb x y ≡ t → not t ≡ leb y x
     by true e = sym (lt-leb y x (ltb-true x y e))
@@ -75,45 +75,45 @@ first-compare x y = by (ltb x y) refl
 module _ (n : ℕ) (s : Bool) (d b : ℕ) (hn : 0 < n) (hd : d < 2 ^ (n + n)) (hb : b < 2 ^ n) where
   -- ---- the reason, if the divisor is not 0, from that comparison
 
-  module _ {whole tmpb : ℕ} {t : Bool} (ew : whole ≡ dividendOf n s d) (eb : tmpb ≡ divisor_of n s b) (e : t ≡ not (accepts n false whole tmpb)) where
-    at_first : atFirst n s d b ≡ t
-    at_first = sym (e ∙ first-compare (whole / 2 ^ n) tmpb ∙ λ i. leb (eb i) (ew i / 2 ^ n))
+  module _ {whole tmpb : ℕ} {t : Bool} (ew : whole ≡ dividend_of n s d) (eb : tmpb ≡ divisor_of n s b) (e : t ≡ not (accepts n false whole tmpb)) where
+    at_first_lem : at_first n s d b ≡ t
+    at_first_lem = sym (e ∙ first_compare (whole / 2 ^ n) tmpb ∙ λ i. leb (eb i) (ew i / 2 ^ n))
 
-    pub wide-refused : (b ≡ 0 → ⊥) → t ≡ true → TooWide ≡ refusalOf n s d b
-    wide-refused z h = ap (λ (x : Bool). cond x ZeroDivisor TooWide) (sym (ne_eqb b 0 z)) ∙ first-refusal n s d b (known n s d b hn hd hb) (at_first ∙ h)
+    pub wide_refused : (b ≡ 0 → ⊥) → t ≡ true → TooWide ≡ refusal_of n s d b
+    wide_refused z h = ap (λ (x : Bool). cond x ZeroDivisor TooWide) (sym (ne_eqb b 0 z)) ∙ first_refusal_lem n s d b (known n s d b hn hd hb) (at_first_lem ∙ h)
 
-    pub range-refused : t ≡ false → SignRange ≡ refusalOf n s d b
-    range-refused h = later-refusal n s d b (known n s d b hn hd hb) (at_first ∙ h)
+    pub range_refused : t ≡ false → SignRange ≡ refusal_of n s d b
+    range_refused h = later_refusal n s d b (known n s d b hn hd hb) (at_first_lem ∙ h)
 
   -- ---- the roads, from CORD's walk
 
   -- CORD accepts every divide that is accepted
-  passed : accepts n s d b ≡ true → atFirst n s d b ≡ false
-  passed e = by (atFirst n s d b) refl
+  passed : accepts n s d b ≡ true → at_first n s d b ≡ false
+  passed e = by (at_first n s d b) refl
     where
-      covered : not (accepts n s d b) ≡ atFirst n s d b || applies SignRange n s d b
-      covered = three-cover n s d b hn ∙ ap (λ (x : Bool). x || applies SignRange n s d b) (sym (compared-first n s d b (known n s d b hn hd hb)))
+      covered : not (accepts n s d b) ≡ at_first n s d b || applies SignRange n s d b
+      covered = three_cover n s d b hn ∙ ap (λ (x : Bool). x || applies SignRange n s d b) (sym (compared_first n s d b (known n s d b hn hd hb)))
 
-      by : (x : Bool) → atFirst n s d b ≡ x → x ≡ false
+      by : (x : Bool) → at_first n s d b ≡ x → x ≡ false
       by true x = absurd (false≢true (ap not (sym e) ∙ covered ∙ ap (λ (y : Bool). y || applies SignRange n s d b) x))
       by false x = refl
 
   -- status 0 is told with the roads of CORD's walk
-  pub told-accepted : {k : ℕ} → k ≡ (toldBy n s d b).status → k ≡ 0 → {whole tmpb : ℕ} → whole ≡ dividendOf n s d → tmpb ≡ divisor_of n s b
-      → tallied 0 (listed (cord n tmpb whole 0).roads) ≡ toldBy n s d b
+  pub told_accepted : {k : ℕ} → k ≡ (told_by n s d b).status → k ≡ 0 → {whole tmpb : ℕ} → whole ≡ dividend_of n s d → tmpb ≡ divisor_of n s b
+      → tallied 0 (listed (cord n tmpb whole 0).roads) ≡ told_by n s d b
   unfolding cord
-  told-accepted e h ew eb = (λ i. tallied 0 (listed (cord n (eb i) (ew i) 0).roads)) ∙ by (accepts n s d b) refl
+  told_accepted e h ew eb = (λ i. tallied 0 (listed (cord n (eb i) (ew i) 0).roads)) ∙ by (accepts n s d b) refl
     where
-      by : (x : Bool) → accepts n s d b ≡ x → tallied 0 (listed (cord n (divisor_of n s b) (dividendOf n s d) 0).roads) ≡ toldBy n s d b
-      by true x = rw (passed x) (sym (accepted-told n s d b x))
-      by false x = absurd (never-zero (refusalOf n s d b) (told-status (sym (refused-told n s d b x)) ∙ sym e ∙ h))
+      by : (x : Bool) → accepts n s d b ≡ x → tallied 0 (listed (cord n (divisor_of n s b) (dividend_of n s d) 0).roads) ≡ told_by n s d b
+      by true x = rw (passed x) (sym (accepted_told n s d b x))
+      by false x = absurd (never_zero (refusal_of n s d b) (told_status (sym (refused-told n s d b x)) ∙ sym e ∙ h))
 
 -- ---- from what the code calls
 
 -- either width lies within the limits of what is called
-pub either-width : {n : ℕ} → (n ≡ 8) ⊎ (n ≡ 16) → (8 ≤ n) × (n ≤ 16)
-either-width (inl e) = (omega arith, omega arith)
-either-width (inr e) = (omega arith, omega arith)
+pub either_width : {n : ℕ} → (n ≡ 8) ⊎ (n ≡ 16) → (8 ≤ n) × (n ≤ 16)
+either_width (inl e) = (omega arith, omega arith)
+either_width (inr e) = (omega arith, omega arith)
 
 -- numbers of the width m, where that is n
 pub of_width : {m n : ℕ} → m ≡ n → {x y : ℕ} → x < 2 ^ (m + m) → y < 2 ^ m → (x < 2 ^ (n + n)) × (y < 2 ^ n)

@@ -6,7 +6,7 @@
 ghost use Rattle.std.specs.Prelude.{◌≡◌, ◌⊎◌, [], ◌∷◌, ◌+◌, ◌^◌, ◌≤◌, ◌<◌};
 ghost use Rattle.numbers.specs.Numbers.{magnitude};
 ghost use Rattle.cord.specs.Cord.{cord};
-ghost use Rattle.roads.specs.Told.{tallied, listed, toldBy, roadsTold};
+ghost use Rattle.roads.specs.Told.{tallied, listed, told_by, roads_told};
 
 use flags::width::{Width8, Width16};
 use trap::compare;
@@ -35,7 +35,7 @@ fn magnitude_by(signed: bool, bits: u32, number: u64) -> u64
 // asked why: the divisor is 0, or the magnitudes are refused without a sign too, or the sign needs the bit.
 fn status_of(bits: u32, dividend: u32, divisor: u16, signed: bool) -> u8
     requires { (dividend < 2 ^ (bits + bits)) × (divisor < 2 ^ bits) × (8 ≤ bits) × (bits ≤ 16) }
-    ensures { result ≡ (toldBy bits signed dividend divisor).status }
+    ensures { result ≡ (told_by bits signed dividend divisor).status }
 {
     if !compare::would_trap(bits, dividend as u64, divisor as u64, signed) {
         return 0;
@@ -71,7 +71,7 @@ fn walk(bits: u32, whole: u64, tmpb: u64, roads: &mut [u16; 2]) -> u8
 // A valid divide at either width. Each caller passes a constant for `bits`, which the compiler folds.
 fn told(bits: u32, dividend: u32, divisor: u16, signed: bool, roads: &mut [u16; 2]) -> u8
     requires { ((bits ≡ 8) ⊎ (bits ≡ 16)) × (dividend < 2 ^ (bits + bits)) × (divisor < 2 ^ bits) }
-    ensures { tallied result roads.new ≡ toldBy bits signed dividend divisor }
+    ensures { tallied result roads.new ≡ told_by bits signed dividend divisor }
 {
     let status = status_of(bits, dividend, divisor, signed);
     if status != 0 {
@@ -82,12 +82,12 @@ fn told(bits: u32, dividend: u32, divisor: u16, signed: bool, roads: &mut [u16; 
     walk(bits, whole, tmpb, roads)
 }
 
-// The limits of a divide are tested here, as they are in `trap`. The laws `told-mode`, `told-large` and
-// `told-admitted` hold them to the table of statuses. `request::decode` and `answer::chart` test them too. With a
+// The limits of a divide are tested here, as they are in `trap`. The laws `told_mode`, `told_large` and
+// `told_admitted` hold them to the table of statuses. `request::decode` and `answer::chart` test them too. With a
 // second caller the compiler would no longer inline those into `ask`, and every request would take longer. REP
 // changes nothing.
 pub fn roads(mode: u8, dividend: u32, divisor: u16, roads: &mut [u16; 2]) -> u8
-    ensures { tallied result roads.new ≡ roadsTold mode dividend divisor }
+    ensures { tallied result roads.new ≡ roads_told mode dividend divisor }
 {
     if mode > 0x07 {
         return none(4, roads);

@@ -1,16 +1,16 @@
 -- A request line of 20 digits, the high digit first: op (2), mode (2), flags (4), X (8), Y (4). Assumes nothing.
 use Rattle.std.specs.Prelude.{cond, ◌&&◌, List, ℕ, ◌+◌, ◌*◌, ◌/◌, ◌%◌, ltb, eqb, length, get_or}
-use Rattle.text.specs.Digits.{digitOf}
+use Rattle.text.specs.Digits.{digit_of}
 use Rattle.text.specs.declared.fields.Read.{Read}
 use Rattle.text.specs.declared.fields.Read.TheVariants.{Fields as OfFields, Length, Digit}
 
 -- four digits; 65,536 where one of them is none
-unfoldable pub fourOf : ℕ → ℕ → ℕ → ℕ → ℕ
-fourOf a b c d = cond (ltb a 16 && ltb b 16 && ltb c 16 && ltb d 16) (a * 0x1000 + b * 0x100 + c * 0x10 + d) 0x1_0000
+unfoldable pub four_of : ℕ → ℕ → ℕ → ℕ → ℕ
+four_of a b c d = cond (ltb a 16 && ltb b 16 && ltb c 16 && ltb d 16) (a * 0x1000 + b * 0x100 + c * 0x10 + d) 0x1_0000
 
 -- the four from a place on
-unfoldable pub fourAt : List ℕ → ℕ → ℕ
-fourAt line at = fourOf (digitOf (get_or line at 0)) (digitOf (get_or line (at + 1) 0)) (digitOf (get_or line (at + 2) 0)) (digitOf (get_or line (at + 3) 0))
+unfoldable pub four_at : List ℕ → ℕ → ℕ
+four_at line at = four_of (digit_of (get_or line at 0)) (digit_of (get_or line (at + 1) 0)) (digit_of (get_or line (at + 2) 0)) (digit_of (get_or line (at + 3) 0))
 
 -- five fours, the first of them op and mode, the third and fourth X
 unfoldable pub fields_of : ℕ → ℕ → ℕ → ℕ → ℕ → Read
@@ -21,7 +21,7 @@ fields_of head flags upper lower y =
 
 -- the 20 bytes from a place on
 unfoldable pub fields_at : List ℕ → ℕ → Read
-fields_at text from = fields_of (fourAt text from) (fourAt text (from + 4)) (fourAt text (from + 8)) (fourAt text (from + 12)) (fourAt text (from + 16))
+fields_at text from = fields_of (four_at text from) (four_at text (from + 4)) (four_at text (from + 8)) (four_at text (from + 12)) (four_at text (from + 16))
 
 -- the length comes before the digits
 unfoldable pub read_of : List ℕ → Read

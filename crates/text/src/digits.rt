@@ -1,7 +1,7 @@
 // Hexadecimal digits: what a byte stands for, and the capital that stands for a number. Both are read
 // from tables, which are built once above and lent.
 ghost use Rattle.std.specs.Prelude.{◌≡◌, ◌<◌};
-ghost use Rattle.text.specs.Digits.{DigitTable, CapitalTable, digitOf, capitalOf};
+ghost use Rattle.text.specs.Digits.{DigitTable, CapitalTable, digit_of, capital_of};
 
 const DIGITS: [u8; 256] = [
     16, // 00
@@ -44,7 +44,7 @@ pub fn capital_table() -> [u8; 16]
 // 16 where the byte is no digit.
 pub fn digit(table: &[u8; 256], byte: u8) -> u8
     requires { DigitTable table.now }
-    ensures { result ≡ digitOf byte }
+    ensures { result ≡ digit_of byte }
 {
     table[byte as usize]
 }
@@ -52,7 +52,7 @@ pub fn digit(table: &[u8; 256], byte: u8) -> u8
 pub fn capital(table: &[u8; 16], number: u16) -> u8
     requires capital_table { CapitalTable table.now }
     requires number_bound { number < 16 }
-    ensures { result ≡ capitalOf number }
+    ensures { result ≡ capital_of number }
 {
     table[number as usize]
 }

@@ -1,9 +1,9 @@
 // A request line: op (2 digits), mode (2), flags (4), X (8), Y (4).
 ghost use Rattle.std.specs.Prelude.{true, [], ◌∷◌, ◌≡◌, ◌+◌, ◌≤◌, ◌<◌, length, take, drop};
 ghost use Rattle.text.specs.Digits.{DigitTable};
-ghost use Rattle.text.specs.Fields.{fourOf, fourAt, fields_at, read_of};
+ghost use Rattle.text.specs.Fields.{four_of, four_at, fields_at, read_of};
 ghost use Rattle.text.specs.Lanes.{lanes};
-ghost use Rattle.text.specs.Plain.{allDigits, field_at};
+ghost use Rattle.text.specs.Plain.{all_digits, field_at};
 
 use crate::{digits, hex};
 
@@ -26,7 +26,7 @@ pub enum Read {
 
 // The number of four digits, the high digit first; 65,536 if one of them is 16 or more, which is no digit.
 fn four(a: u8, b: u8, c: u8, d: u8) -> u32
-    ensures { result ≡ fourOf a b c d }
+    ensures { result ≡ four_of a b c d }
 {
     if a < 16 && b < 16 && c < 16 && d < 16 {
         return a as u32 * 0x1000 + b as u32 * 0x100 + c as u32 * 0x10 + d as u32;
@@ -38,7 +38,7 @@ fn four(a: u8, b: u8, c: u8, d: u8) -> u32
 pub fn four_at(table: &[u8; 256], line: &[u8], at: usize) -> u32
     requires digit_table { DigitTable table.now }
     requires at_in_bounds { at + 4 ≤ length line.now }
-    ensures { result ≡ fourAt line.now at }
+    ensures { result ≡ four_at line.now at }
 {
     four(
         digits::digit(table, line[at]),
@@ -67,7 +67,7 @@ fn eight_bytes(a: u8, b: u8, c: u8, d: u8, e: u8, f: u8, g: u8, h: u8) -> u64
 // holds the number of each two digits, and the result that of each four.
 fn two_fours(text: &[u8], at: usize) -> u64
     requires at_in_bounds { at + 8 ≤ length text.now }
-    requires text_value { allDigits (take 8 (drop at text.now)) ≡ true }
+    requires text_value { all_digits (take 8 (drop at text.now)) ≡ true }
     ensures { result ≡ lanes 32 (field_at at 4 text.now ∷ field_at (at + 4) 4 text.now ∷ []) }
 {
     let v = eight_bytes(

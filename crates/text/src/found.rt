@@ -1,7 +1,7 @@
 // A line of a text, found and read.
 ghost use Rattle.std.specs.Prelude.{◌≡◌, ◌≤◌, length};
 ghost use Rattle.text.specs.Digits.{DigitTable};
-ghost use Rattle.text.specs.Lines.{foundOf};
+ghost use Rattle.text.specs.Lines.{found_of};
 
 use crate::fields::Read;
 use crate::{fields, lines};
@@ -15,7 +15,7 @@ pub struct Found {
 // Searches for the line feed byte by byte, then reads the line.
 fn sought(text: &[u8], from: usize) -> Found
     requires { from ≤ length text.now }
-    ensures { result ≡ foundOf text.now from }
+    ensures { result ≡ found_of text.now from }
 {
     let end = lines::line_end(text, from);
     Found {
@@ -30,7 +30,7 @@ fn sought(text: &[u8], from: usize) -> Found
 pub fn read_at(table: &[u8; 256], text: &[u8], from: usize) -> Found
     requires digit_table { DigitTable table.now }
     requires from_in_bounds { from ≤ length text.now }
-    ensures { result ≡ foundOf text.now from }
+    ensures { result ≡ found_of text.now from }
 {
     if text.len() - from >= 21 {
         if text[from + 20] == b'\n' {

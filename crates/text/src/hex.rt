@@ -1,11 +1,11 @@
 // Digits read without a table, for one line at a time: a table takes longer to build than a line to read.
 // No function branches on a digit, so the compiler can test many bytes at once.
 ghost use Rattle.std.specs.Prelude.{true, ◌≡◌, ◌+◌, ◌≤◌, length, take, drop};
-ghost use Rattle.text.specs.Digits.{digitOf};
-ghost use Rattle.text.specs.Plain.{isDigit, allDigits, field_at};
+ghost use Rattle.text.specs.Digits.{digit_of};
+ghost use Rattle.text.specs.Plain.{is_digit, all_digits, field_at};
 
 fn is_digit(byte: u8) -> bool
-    ensures { result ≡ isDigit byte }
+    ensures { result ≡ is_digit byte }
 {
     ((0x30 <= byte) & (byte <= 0x39))
         | ((0x41 <= byte) & (byte <= 0x46))
@@ -16,7 +16,7 @@ fn is_digit(byte: u8) -> bool
 // test many bytes at once.
 pub fn all_digits(text: &[u8], from: usize, count: usize) -> bool
     requires { from + count ≤ length text.now }
-    ensures { result ≡ allDigits (take count (drop from text.now)) }
+    ensures { result ≡ all_digits (take count (drop from text.now)) }
 {
     let mut all = true;
     let mut i = 0;
@@ -29,8 +29,8 @@ pub fn all_digits(text: &[u8], from: usize, count: usize) -> bool
 
 // The number of a byte that is a digit. A letter has bit 6, and its low four bits are 1 for A.
 fn value(byte: u8) -> u8
-    requires { isDigit byte ≡ true }
-    ensures { result ≡ digitOf byte }
+    requires { is_digit byte ≡ true }
+    ensures { result ≡ digit_of byte }
 {
     byte % 16 + byte / 64 * 9
 }
@@ -38,7 +38,7 @@ fn value(byte: u8) -> u8
 // The number of the two digits from `at` on.
 pub fn two_digits(text: &[u8], at: usize) -> u8
     requires at_in_bounds { at + 2 ≤ length text.now }
-    requires text_value { allDigits (take 2 (drop at text.now)) ≡ true }
+    requires text_value { all_digits (take 2 (drop at text.now)) ≡ true }
     ensures { result ≡ field_at at 2 text.now }
 {
     value(text[at]) * 16 + value(text[at + 1])
@@ -47,7 +47,7 @@ pub fn two_digits(text: &[u8], at: usize) -> u8
 // The number of the four digits from `at` on.
 pub fn four_digits(text: &[u8], at: usize) -> u16
     requires at_in_bounds { at + 4 ≤ length text.now }
-    requires text_value { allDigits (take 4 (drop at text.now)) ≡ true }
+    requires text_value { all_digits (take 4 (drop at text.now)) ≡ true }
     ensures { result ≡ field_at at 4 text.now }
 {
     two_digits(text, at) as u16 * 0x100 + two_digits(text, at + 2) as u16

@@ -1,11 +1,11 @@
 // Where lines end, and where the next starts.
 ghost use Rattle.std.specs.Prelude.{◌≡◌, ◌≤◌, length};
-ghost use Rattle.text.specs.Lines.{lineEnd, next_of};
+ghost use Rattle.text.specs.Lines.{line_end, next_of};
 
 // The end of the line that starts at `from`: its line feed, or the end of the text.
 pub fn line_end(text: &[u8], from: usize) -> usize
     requires { from ≤ length text.now }
-    ensures { result ≡ lineEnd text.now from }
+    ensures { result ≡ line_end text.now from }
 {
     let mut at = from;
     while at < text.len() {

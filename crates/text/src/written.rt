@@ -1,7 +1,7 @@
 // An answer line: status (2 digits), flags (4), steps (4), R (4), S (4) and a line feed, 19 bytes.
 ghost use Rattle.std.specs.Prelude.{◌≡◌, ◌++◌, ◌+◌, ◌≤◌, length, drop};
 ghost use Rattle.std.proofs.lemmas.List.Edits.{sets};
-ghost use Rattle.text.specs.Digits.{CapitalTable, capitalOf};
+ghost use Rattle.text.specs.Digits.{CapitalTable, capital_of};
 ghost use Rattle.text.specs.Lanes.{lanes};
 ghost use Rattle.text.specs.Written.{four, written};
 
@@ -11,7 +11,7 @@ use crate::digits;
 // bytes of the numbers, and `n` their digits. A digit above 9 has bit 4 set once 6 is added. It gets 7 more,
 // since A stands 8 places after 9.
 fn eight_capitals(first: u16, second: u16) -> u64
-    ensures { result ≡ lanes 8 (four capitalOf first ++ four capitalOf second) }
+    ensures { result ≡ lanes 8 (four capital_of first ++ four capital_of second) }
 {
     let q = first as u64 + second as u64 * 0x1_0000_0000;
     let p = (q & 0x0000_FF00_0000_FF00) / 0x100 + (q & 0x0000_00FF_0000_00FF) * 0x1_0000;
@@ -23,7 +23,7 @@ fn eight_capitals(first: u16, second: u16) -> u64
 // adjacent stores into one if the lowest byte is stored first.
 fn put_eight(first: u16, second: u16, out: &mut [u8], at: usize)
     requires { at + 8 ≤ length out.old }
-    ensures { out.new ≡ sets out.old at (four capitalOf first ++ four capitalOf second) }
+    ensures { out.new ≡ sets out.old at (four capital_of first ++ four capital_of second) }
 {
     let c = eight_capitals(first, second);
     out[at] = (c % 0x100) as u8;
@@ -40,7 +40,7 @@ fn put_eight(first: u16, second: u16, out: &mut [u8], at: usize)
 pub fn write(table: &[u8; 16], status: u8, flags: u16, steps: u16, r: u16, s: u16, out: &mut [u8])
     requires capital_table { CapitalTable table.now }
     requires in_bounds { 19 ≤ length out.old }
-    ensures { out.new ≡ written capitalOf status flags steps r s ++ drop 19 out.old }
+    ensures { out.new ≡ written capital_of status flags steps r s ++ drop 19 out.old }
 {
     out[0] = digits::capital(table, (status / 0x10) as u16);
     out[1] = digits::capital(table, (status % 0x10) as u16);

@@ -14,8 +14,8 @@ plainly 𝓤 {A} {B} {C} h =
     fact_use 𝓤 A (conj_l 𝓤 (fact 𝓤 A) (fact 𝓤 B)) (λ a. fact_use 𝓤 B (conj_r 𝓤 (fact 𝓤 A) (fact 𝓤 B)) (λ b. fact_i 𝓤 C both (h a b)))
 
 -- and back: a law of this crate says of the answers themselves what it says in that logic, where the contract is a plain fact
-pub read-plainly : {M : Type 1} (𝓤 : Ura M) {A B C : Type 0} → ent 𝓤 (conj 𝓤 (fact 𝓤 A) (fact 𝓤 B)) (fact 𝓤 C) → A → B → ∥ C ∥₁
-read-plainly 𝓤 h a b = ∥∥₁_map (h.apply 𝓤.one (∣ (a, tt) ∣₁, ∣ (b, tt) ∣₁)) (λ t. t.0)
+pub read_plainly : {M : Type 1} (𝓤 : Ura M) {A B C : Type 0} → ent 𝓤 (conj 𝓤 (fact 𝓤 A) (fact 𝓤 B)) (fact 𝓤 C) → A → B → ∥ C ∥₁
+read_plainly 𝓤 h a b = ∥∥₁_map (h.apply 𝓤.one (∣ (a, tt) ∣₁, ∣ (b, tt) ∣₁)) (λ t. t.0)
 
 -- a contract `r ≡ f x`
 pub same : {A : Type 0} {f r s : A} → r ≡ f → s ≡ f → r ≡ s

@@ -16,8 +16,8 @@ module _ {M : Type 1} where
   pub adjust-between : Tight M adjust.between.signature adjust.between.clauses
   adjust-between c g r s = plainly c.𝓤 (λ e d. (same e d, refl))
 
-  pub adjust-low-digit-adjusts : Tight M adjust.low_digit_adjusts.signature adjust.low_digit_adjusts.clauses
-  adjust-low-digit-adjusts c g r s = plainly c.𝓤 (λ e d. (same e d, refl))
+  pub adjust-low_digit_adjusts : Tight M adjust.low_digit_adjusts.signature adjust.low_digit_adjusts.clauses
+  adjust-low_digit_adjusts c g r s = plainly c.𝓤 (λ e d. (same e d, refl))
 
   pub ascii-aaa : Tight M ascii.aaa.signature ascii.aaa.clauses
   ascii-aaa c g r s = plainly c.𝓤 (λ e d. (same e d, refl))

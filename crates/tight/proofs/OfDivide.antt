@@ -2,11 +2,11 @@
 use mathlib.Core.Path.{refl}
 use Rattle.divide.proofs.div
 use Rattle.tight.specs.Tight.{Tight}
-use Rattle.tight.proofs.{Law.plainly, Law.through, Views.divided8-faithful, Views.divided16-faithful}
+use Rattle.tight.proofs.{Law.plainly, Law.through, Views.divided8_faithful, Views.divided16_faithful}
 
 module _ {M : Type 1} where
   pub div-div8 : Tight M div.div8.signature div.div8.clauses
-  div-div8 c g r s = plainly c.𝓤 (λ e d. (through divided8-faithful e d, refl))
+  div-div8 c g r s = plainly c.𝓤 (λ e d. (through divided8_faithful e d, refl))
 
   pub div-div16 : Tight M div.div16.signature div.div16.clauses
-  div-div16 c g r s = plainly c.𝓤 (λ e d. (through divided16-faithful e d, refl))
+  div-div16 c g r s = plainly c.𝓤 (λ e d. (through divided16_faithful e d, refl))

@@ -7,32 +7,32 @@ use Rattle.tight.specs.Tight.{Tight}
 use Rattle.tight.proofs.Law.{plainly, same, one_table}
 
 module _ {M : Type 1} where
-  pub parity-parity-table : Tight M parity.parity_table.signature parity.parity_table.clauses
-  parity-parity-table c g r s = plainly c.𝓤 (λ e d. (one_table e d, refl))
+  pub parity-parity_table : Tight M parity.parity_table.signature parity.parity_table.clauses
+  parity-parity_table c g r s = plainly c.𝓤 (λ e d. (one_table e d, refl))
 
   pub parity-parity : Tight M parity.parity.signature parity.parity.clauses
   parity-parity c g r s = plainly c.𝓤 (λ e d. (same e d, refl))
 
-  pub width-Width8-set-szp-flags-from-result-u8 : Tight M width.Width8.set_szp_flags_from_result_u8.signature width.Width8.set_szp_flags_from_result_u8.clauses
-  width-Width8-set-szp-flags-from-result-u8 c g r s = plainly c.𝓤 (λ e d. (same e d, refl))
+  pub width-Width8-set_szp_flags_from_result_u8 : Tight M width.Width8.set_szp_flags_from_result_u8.signature width.Width8.set_szp_flags_from_result_u8.clauses
+  width-Width8-set_szp_flags_from_result_u8 c g r s = plainly c.𝓤 (λ e d. (same e d, refl))
 
-  pub width-Width16-set-szp-flags-from-result-u16 : Tight M width.Width16.set_szp_flags_from_result_u16.signature width.Width16.set_szp_flags_from_result_u16.clauses
-  width-Width16-set-szp-flags-from-result-u16 c g r s = plainly c.𝓤 (λ e d. (same e d, refl))
+  pub width-Width16-set_szp_flags_from_result_u16 : Tight M width.Width16.set_szp_flags_from_result_u16.signature width.Width16.set_szp_flags_from_result_u16.clauses
+  width-Width16-set_szp_flags_from_result_u16 c g r s = plainly c.𝓤 (λ e d. (same e d, refl))
 
-  pub word-Flags-from-word : Tight M word.Flags.from_word.signature word.Flags.from_word.clauses
-  word-Flags-from-word c g r s = plainly c.𝓤 (λ e d. (same e d, refl))
+  pub word-Flags-from_word : Tight M word.Flags.from_word.signature word.Flags.from_word.clauses
+  word-Flags-from_word c g r s = plainly c.𝓤 (λ e d. (same e d, refl))
 
-  pub word-Flags-to-word : Tight M word.Flags.to_word.signature word.Flags.to_word.clauses
-  word-Flags-to-word c g r s = plainly c.𝓤 (λ e d. (same e d, refl))
+  pub word-Flags-to_word : Tight M word.Flags.to_word.signature word.Flags.to_word.clauses
+  word-Flags-to_word c g r s = plainly c.𝓤 (λ e d. (same e d, refl))
 
-  pub word-Flags-is-flags : Tight M word.Flags.is_flags.signature word.Flags.is_flags.clauses
-  word-Flags-is-flags c g r s = plainly c.𝓤 (λ e d. (same e d, refl))
+  pub word-Flags-is_flags : Tight M word.Flags.is_flags.signature word.Flags.is_flags.clauses
+  word-Flags-is_flags c g r s = plainly c.𝓤 (λ e d. (same e d, refl))
 
-  pub word-Flags-with-c : Tight M word.Flags.with_c.signature word.Flags.with_c.clauses
-  word-Flags-with-c c g r s = plainly c.𝓤 (λ e d. (same e d, refl))
+  pub word-Flags-with_c : Tight M word.Flags.with_c.signature word.Flags.with_c.clauses
+  word-Flags-with_c c g r s = plainly c.𝓤 (λ e d. (same e d, refl))
 
-  pub word-Flags-with-co : Tight M word.Flags.with_co.signature word.Flags.with_co.clauses
-  word-Flags-with-co c g r s = plainly c.𝓤 (λ e d. (same e d, refl))
+  pub word-Flags-with_co : Tight M word.Flags.with_co.signature word.Flags.with_co.clauses
+  word-Flags-with_co c g r s = plainly c.𝓤 (λ e d. (same e d, refl))
 
-  pub word-Flags-with-coa : Tight M word.Flags.with_coa.signature word.Flags.with_coa.clauses
-  word-Flags-with-coa c g r s = plainly c.𝓤 (λ e d. (same e d, refl))
+  pub word-Flags-with_coa : Tight M word.Flags.with_coa.signature word.Flags.with_coa.clauses
+  word-Flags-with_coa c g r s = plainly c.𝓤 (λ e d. (same e d, refl))

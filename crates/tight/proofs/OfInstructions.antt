@@ -6,32 +6,32 @@ use Rattle.tight.specs.Tight.{Tight}
 use Rattle.tight.proofs.Law.{plainly, same}
 
 module _ {M : Type 1} where
-  pub by-value-aaa : Tight M by_value.aaa.signature by_value.aaa.clauses
-  by-value-aaa c g r s = plainly c.𝓤 (λ e d. (same e d, refl))
+  pub by_value-aaa : Tight M by_value.aaa.signature by_value.aaa.clauses
+  by_value-aaa c g r s = plainly c.𝓤 (λ e d. (same e d, refl))
 
-  pub by-value-aas : Tight M by_value.aas.signature by_value.aas.clauses
-  by-value-aas c g r s = plainly c.𝓤 (λ e d. (same e d, refl))
+  pub by_value-aas : Tight M by_value.aas.signature by_value.aas.clauses
+  by_value-aas c g r s = plainly c.𝓤 (λ e d. (same e d, refl))
 
-  pub by-value-aad : Tight M by_value.aad.signature by_value.aad.clauses
-  by-value-aad c g r s = plainly c.𝓤 (λ e d. (same e d, refl))
+  pub by_value-aad : Tight M by_value.aad.signature by_value.aad.clauses
+  by_value-aad c g r s = plainly c.𝓤 (λ e d. (same e d, refl))
 
-  pub by-value-daa : Tight M by_value.daa.signature by_value.daa.clauses
-  by-value-daa c g r s = plainly c.𝓤 (λ e d. (same e d, refl))
+  pub by_value-daa : Tight M by_value.daa.signature by_value.daa.clauses
+  by_value-daa c g r s = plainly c.𝓤 (λ e d. (same e d, refl))
 
-  pub by-value-das : Tight M by_value.das.signature by_value.das.clauses
-  by-value-das c g r s = plainly c.𝓤 (λ e d. (same e d, refl))
+  pub by_value-das : Tight M by_value.das.signature by_value.das.clauses
+  by_value-das c g r s = plainly c.𝓤 (λ e d. (same e d, refl))
 
-  pub by-value-mul8 : Tight M by_value.mul8.signature by_value.mul8.clauses
-  by-value-mul8 c g r s = plainly c.𝓤 (λ e d. (same e d, refl))
+  pub by_value-mul8 : Tight M by_value.mul8.signature by_value.mul8.clauses
+  by_value-mul8 c g r s = plainly c.𝓤 (λ e d. (same e d, refl))
 
-  pub by-value-mul16 : Tight M by_value.mul16.signature by_value.mul16.clauses
-  by-value-mul16 c g r s = plainly c.𝓤 (λ e d. (same e d, refl))
+  pub by_value-mul16 : Tight M by_value.mul16.signature by_value.mul16.clauses
+  by_value-mul16 c g r s = plainly c.𝓤 (λ e d. (same e d, refl))
 
-  pub by-value-div8 : Tight M by_value.div8.signature by_value.div8.clauses
-  by-value-div8 c g r s = plainly c.𝓤 (λ e d. (same e d, refl))
+  pub by_value-div8 : Tight M by_value.div8.signature by_value.div8.clauses
+  by_value-div8 c g r s = plainly c.𝓤 (λ e d. (same e d, refl))
 
-  pub by-value-div16 : Tight M by_value.div16.signature by_value.div16.clauses
-  by-value-div16 c g r s = plainly c.𝓤 (λ e d. (same e d, refl))
+  pub by_value-div16 : Tight M by_value.div16.signature by_value.div16.clauses
+  by_value-div16 c g r s = plainly c.𝓤 (λ e d. (same e d, refl))
 
   pub lent-aaa : Tight M lent.aaa.signature lent.aaa.clauses
   lent-aaa c g r s = plainly c.𝓤 (λ e d. let t = same e d in (λ i. record { status = (t i).status; steps = (t i).steps }, λ i. ((t i).regs, tt)))

@@ -8,14 +8,14 @@ use Rattle.tight.specs.Tight.{Tight}
 use Rattle.tight.proofs.Law.{plainly, same}
 
 module _ {M : Type 1} where
-  pub byte-work-byte : Tight M byte.work_byte.signature byte.work_byte.clauses
-  byte-work-byte c g r s = plainly c.𝓤 (λ e d. (same e d, refl))
+  pub byte-work_byte : Tight M byte.work_byte.signature byte.work_byte.clauses
+  byte-work_byte c g r s = plainly c.𝓤 (λ e d. (same e d, refl))
 
   pub judge-judge : Tight M judge.judge.signature judge.judge.clauses
   judge-judge c g r s = plainly c.𝓤 (λ e d. (same e d, refl))
 
-  pub judge-refusal-status : Tight M judge.refusal_status.signature judge.refusal_status.clauses
-  judge-refusal-status c g r s = plainly c.𝓤 (λ e d. (same e d, refl))
+  pub judge-refusal_status : Tight M judge.refusal_status.signature judge.refusal_status.clauses
+  judge-refusal_status c g r s = plainly c.𝓤 (λ e d. (same e d, refl))
 
   pub string-add : Tight M string.add.signature string.add.clauses
   string-add c g r s = plainly c.𝓤 (λ e d. let t = same e d in (λ i. (t i).outcome, λ i. (tt, (tt, (tt, ((t i).buffer, tt))))))

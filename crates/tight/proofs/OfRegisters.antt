@@ -8,5 +8,5 @@ module _ {M : Type 1} where
   pub count-count : Tight M count.count.signature count.count.clauses
   count-count c g r s = plainly c.𝓤 (λ e d. let t = same e d in (λ i. (t i).status, λ i. (tt, ((t i).flags, ((t i).total, ((t i).steps, tt))))))
 
-  pub by-number-operate : Tight M by_number.operate.signature by_number.operate.clauses
-  by-number-operate c g r s = plainly c.𝓤 (λ e d. let t = same e d in (λ i. (t i).status, λ i. (tt, (tt, (tt, ((t i).regs.ax, ((t i).regs.dx, ((t i).regs.flags, ((t i).regs.total, ((t i).steps, tt))))))))))
+  pub by_number-operate : Tight M by_number.operate.signature by_number.operate.clauses
+  by_number-operate c g r s = plainly c.𝓤 (λ e d. let t = same e d in (λ i. (t i).status, λ i. (tt, (tt, (tt, ((t i).regs.ax, ((t i).regs.dx, ((t i).regs.flags, ((t i).regs.total, ((t i).steps, tt))))))))))

@@ -10,11 +10,11 @@ use Rattle.tight.specs.Tight.{Tight}
 use Rattle.tight.proofs.Law.{plainly, same, one_table}
 
 module _ {M : Type 1} where
-  pub digits-digit-table : Tight M digits.digit_table.signature digits.digit_table.clauses
-  digits-digit-table c g r s = plainly c.𝓤 (λ e d. (one_table e d, refl))
+  pub digits-digit_table : Tight M digits.digit_table.signature digits.digit_table.clauses
+  digits-digit_table c g r s = plainly c.𝓤 (λ e d. (one_table e d, refl))
 
-  pub digits-capital-table : Tight M digits.capital_table.signature digits.capital_table.clauses
-  digits-capital-table c g r s = plainly c.𝓤 (λ e d. (one_table e d, refl))
+  pub digits-capital_table : Tight M digits.capital_table.signature digits.capital_table.clauses
+  digits-capital_table c g r s = plainly c.𝓤 (λ e d. (one_table e d, refl))
 
   pub digits-digit : Tight M digits.digit.signature digits.digit.clauses
   digits-digit c g r s = plainly c.𝓤 (λ e d. (same e d, refl))
@@ -22,32 +22,32 @@ module _ {M : Type 1} where
   pub digits-capital : Tight M digits.capital.signature digits.capital.clauses
   digits-capital c g r s = plainly c.𝓤 (λ e d. (same e d, refl))
 
-  pub fields-four-at : Tight M fields.four_at.signature fields.four_at.clauses
-  fields-four-at c g r s = plainly c.𝓤 (λ e d. (same e d, refl))
+  pub fields-four_at : Tight M fields.four_at.signature fields.four_at.clauses
+  fields-four_at c g r s = plainly c.𝓤 (λ e d. (same e d, refl))
 
-  pub fields-fields-at : Tight M fields.fields_at.signature fields.fields_at.clauses
-  fields-fields-at c g r s = plainly c.𝓤 (λ e d. (same e d, refl))
+  pub fields-fields_at : Tight M fields.fields_at.signature fields.fields_at.clauses
+  fields-fields_at c g r s = plainly c.𝓤 (λ e d. (same e d, refl))
 
-  pub fields-read-fields : Tight M fields.read_fields.signature fields.read_fields.clauses
-  fields-read-fields c g r s = plainly c.𝓤 (λ e d. (same e d, refl))
+  pub fields-read_fields : Tight M fields.read_fields.signature fields.read_fields.clauses
+  fields-read_fields c g r s = plainly c.𝓤 (λ e d. (same e d, refl))
 
-  pub found-read-at : Tight M found.read_at.signature found.read_at.clauses
-  found-read-at c g r s = plainly c.𝓤 (λ e d. (same e d, refl))
+  pub found-read_at : Tight M found.read_at.signature found.read_at.clauses
+  found-read_at c g r s = plainly c.𝓤 (λ e d. (same e d, refl))
 
-  pub lines-line-end : Tight M lines.line_end.signature lines.line_end.clauses
-  lines-line-end c g r s = plainly c.𝓤 (λ e d. (same e d, refl))
+  pub lines-line_end : Tight M lines.line_end.signature lines.line_end.clauses
+  lines-line_end c g r s = plainly c.𝓤 (λ e d. (same e d, refl))
 
-  pub lines-next-start : Tight M lines.next_start.signature lines.next_start.clauses
-  lines-next-start c g r s = plainly c.𝓤 (λ e d. (same e d, refl))
+  pub lines-next_start : Tight M lines.next_start.signature lines.next_start.clauses
+  lines-next_start c g r s = plainly c.𝓤 (λ e d. (same e d, refl))
 
-  pub hex-all-digits : Tight M hex.all_digits.signature hex.all_digits.clauses
-  hex-all-digits c g r s = plainly c.𝓤 (λ e d. (same e d, refl))
+  pub hex-all_digits : Tight M hex.all_digits.signature hex.all_digits.clauses
+  hex-all_digits c g r s = plainly c.𝓤 (λ e d. (same e d, refl))
 
-  pub hex-two-digits : Tight M hex.two_digits.signature hex.two_digits.clauses
-  hex-two-digits c g r s = plainly c.𝓤 (λ e d. (same e d, refl))
+  pub hex-two_digits : Tight M hex.two_digits.signature hex.two_digits.clauses
+  hex-two_digits c g r s = plainly c.𝓤 (λ e d. (same e d, refl))
 
-  pub hex-four-digits : Tight M hex.four_digits.signature hex.four_digits.clauses
-  hex-four-digits c g r s = plainly c.𝓤 (λ e d. (same e d, refl))
+  pub hex-four_digits : Tight M hex.four_digits.signature hex.four_digits.clauses
+  hex-four_digits c g r s = plainly c.𝓤 (λ e d. (same e d, refl))
 
   pub written-write : Tight M written.write.signature written.write.clauses
   written-write c g r s = plainly c.𝓤 (λ e d. (refl, λ i. (tt, (tt, (tt, (tt, (tt, (tt, (same e d i, tt)))))))))

@@ -6,17 +6,17 @@ use Rattle.tight.specs.Tight.{Tight}
 use Rattle.tight.proofs.Law.{plainly, same}
 
 module _ {M : Type 1} where
-  pub compare-magnitude-of : Tight M compare.magnitude_of.signature compare.magnitude_of.clauses
-  compare-magnitude-of c g r s = plainly c.𝓤 (λ e d. (same e d, refl))
+  pub compare-magnitude_of : Tight M compare.magnitude_of.signature compare.magnitude_of.clauses
+  compare-magnitude_of c g r s = plainly c.𝓤 (λ e d. (same e d, refl))
 
-  pub compare-would-trap : Tight M compare.would_trap.signature compare.would_trap.clauses
-  compare-would-trap c g r s = plainly c.𝓤 (λ e d. (same e d, refl))
+  pub compare-would_trap : Tight M compare.would_trap.signature compare.would_trap.clauses
+  compare-would_trap c g r s = plainly c.𝓤 (λ e d. (same e d, refl))
 
-  pub compare-would-trap8 : Tight M compare.would_trap8.signature compare.would_trap8.clauses
-  compare-would-trap8 c g r s = plainly c.𝓤 (λ e d. (same e d, refl))
+  pub compare-would_trap8 : Tight M compare.would_trap8.signature compare.would_trap8.clauses
+  compare-would_trap8 c g r s = plainly c.𝓤 (λ e d. (same e d, refl))
 
-  pub compare-would-trap16 : Tight M compare.would_trap16.signature compare.would_trap16.clauses
-  compare-would-trap16 c g r s = plainly c.𝓤 (λ e d. (same e d, refl))
+  pub compare-would_trap16 : Tight M compare.would_trap16.signature compare.would_trap16.clauses
+  compare-would_trap16 c g r s = plainly c.𝓤 (λ e d. (same e d, refl))
 
-  pub lib-would-trap : Tight M lib.would_trap.signature lib.would_trap.clauses
-  lib-would-trap c g r s = plainly c.𝓤 (λ e d. let t = same e d in (λ i. (t i).status, λ i. (tt, (tt, (tt, ((t i).trap, tt))))))
+  pub lib_would_trap : Tight M lib.would_trap.signature lib.would_trap.clauses
+  lib_would_trap c g r s = plainly c.𝓤 (λ e d. let t = same e d in (λ i. (t i).status, λ i. (tt, (tt, (tt, ((t i).trap, tt))))))

@@ -1,7 +1,7 @@
 -- Whether a divide given as numbers would trap: by the status that the divide itself is given. Assumes nothing.
 use Rattle.std.specs.Prelude.{not, cond, ℕ, eqb}
 use Rattle.numbers.specs.Numbers.{bit, between}
-use Rattle.answer.specs.Asked.{statusOf}
+use Rattle.answer.specs.Asked.{status_of}
 
 -- a status, and 1 where the divide would trap, else 0
 pub record WouldTrap : Type 0 where
@@ -9,13 +9,13 @@ pub record WouldTrap : Type 0 where
   pub trap : ℕ
 
 -- the two together
-abbrev pub trapTold : ℕ → ℕ → WouldTrap
-trapTold status trap = record { status = status; trap = trap }
+abbrev pub trap_told : ℕ → ℕ → WouldTrap
+trap_told status trap = record { status = status; trap = trap }
 
 -- of the divide's own status: 4 and 5 are told as they are, and any other as 0; and it would trap unless that status is 0
-abbrev pub trapBy : ℕ → WouldTrap
-trapBy k = trapTold (cond (between 4 5 k) k 0) (bit (not (eqb k 0)))
+abbrev pub trap_by : ℕ → WouldTrap
+trap_by k = trap_told (cond (between 4 5 k) k 0) (bit (not (eqb k 0)))
 
 -- the divide is op 11, with no flag set; the law `told_of` has it for all that may be set
-unfoldable pub wouldTrap : ℕ → ℕ → ℕ → WouldTrap
-wouldTrap mode dividend divisor = trapBy (statusOf 0x11 mode 0 dividend divisor)
+unfoldable pub would_trap : ℕ → ℕ → ℕ → WouldTrap
+would_trap mode dividend divisor = trap_by (status_of 0x11 mode 0 dividend divisor)

@@ -3,22 +3,22 @@
 pub mod compare;
 
 ghost use Rattle.std.specs.Prelude.{◌≡◌};
-ghost use Rattle.trap.specs.Told.{trapTold, wouldTrap};
+ghost use Rattle.trap.specs.Told.{trap_told, would_trap};
 
 use flags::width::{Width8, Width16};
 
 // What cannot be asked is said to trap, so that who looks at nothing else sees closed.
 fn closed(status: u8, trap: &mut u8) -> u8
-    ensures { trapTold result trap.new ≡ trapTold status 1 }
+    ensures { trap_told result trap.new ≡ trap_told status 1 }
 {
     *trap = 1;
     status
 }
 
-// The limits of a divide are tested here too, and the law `told-by-rows` holds them to the table of statuses. With a
+// The limits of a divide are tested here too, and the law `told_by-rows` holds them to the table of statuses. With a
 // second caller the compiler would no longer inline `request::decode` into `ask`, and every request would take longer.
 pub fn would_trap(mode: u8, dividend: u32, divisor: u16, trap: &mut u8) -> u8
-    ensures { trapTold result trap.new ≡ wouldTrap mode dividend divisor }
+    ensures { trap_told result trap.new ≡ would_trap mode dividend divisor }
 {
     if mode > 0x07 {
         return closed(4, trap);

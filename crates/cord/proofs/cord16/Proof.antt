@@ -3,9 +3,9 @@ use mathlib.Core.Path.{◌≡◌, ap}
 use Prim.Native.Nat.{ℕ, ◌+◌, ◌*◌, ◌/◌, ◌%◌, ◌≤◌, ◌<◌}
 use native.Mathlib.Omega.{arith}
 use lib.Bits.{bit_and, and_mask}
-use Rattle.numbers.proofs.Masks.{mask-top-clear}
+use Rattle.numbers.proofs.Masks.{mask_top_clear}
 use Rattle.cord.specs.Views.{round16}
-use Rattle.cord.proofs.{CordLaws.refuses, Turning.Turning, Turning.starts, Turning.may-turn, Turning.turns, Turning.ends, cord16.Statement.statement}
+use Rattle.cord.proofs.{CordLaws.refuses, Turning.Turning, Turning.starts, Turning.may_turn, Turning.turns, Turning.ends, cord16.Statement.statement}
 use Rattle.cord.proofs.cord16.Tie as tie
 
 abbrev invariant-loop : tie.invariant-loop
@@ -28,7 +28,7 @@ few-at : (c : tie.After-loop invariant-loop decreases-loop)
     → let at = c.before.loop.at in (at.both / 65536 < 65536) × (at.compared / 65536 < 65536) × (at.no_borrow ≤ 16) × (c.before.before.before.args.steps < 100)
 few-at c =
     let t = c.before.loop.invariant in
-    (omega (arith, may-turn t, t.divisor), omega (arith, t.within), omega (arith, may-turn t), c.before.before.before.requires)
+    (omega (arith, may_turn t, t.divisor), omega (arith, t.within), omega (arith, may_turn t), c.before.before.before.requires)
 
 -- whether the quotient is odd
 odd-at : (c : tie.After-loop invariant-loop decreases-loop) → let q = c.before.loop.at.both % 65536 in bit_and q 1 ≡ q % 2
@@ -39,16 +39,16 @@ ended c = c.before.before.before.before
 
 returns-2 : tie.Need-returns-2 invariant-loop decreases-loop
 returns-2 c =
-    let at-end = ended c in
-    let r = at-end.before.loop.at in
-    let steps = at-end.before.before.before.args.steps in
-    ends at-end.before.loop.inv steps at-end.loop-test.left (mask-top-clear 16 (r.both % 65536) (omega arith) (omega arith))
-    (ap (λ (x : ℕ). steps + 6 + 8 * 16 + r.no_borrow + 2 * x) (odd-at at-end))
+    let at_end = ended c in
+    let r = at_end.before.loop.at in
+    let steps = at_end.before.before.before.args.steps in
+    ends at_end.before.loop.inv steps at_end.loop-test.left (mask_top_clear 16 (r.both % 65536) (omega arith) (omega arith))
+    (ap (λ (x : ℕ). steps + 6 + 8 * 16 + r.no_borrow + 2 * x) (odd-at at_end))
 
-pub cord16-spec : {M : Type 1} → statement M
-cord16-spec =
+pub cord16_spec : {M : Type 1} → statement M
+cord16_spec =
     tie.close
-    (tie.spec invariant-loop decreases-loop (λ c. omega arith) returns (λ c. omega arith) (λ c. omega arith) loop-holds (λ c κs. omega (arith, may-turn c.before.loop.invariant))
+    (tie.spec invariant-loop decreases-loop (λ c. omega arith) returns (λ c. omega arith) (λ c. omega arith) loop-holds (λ c κs. omega (arith, may_turn c.before.loop.invariant))
     (λ c. omega arith) (λ c. omega arith) loop-again (λ c. omega arith) (λ c. omega (arith, few-at c.before.before)) (λ c. omega (arith, few-at c.before.before.before))
     (λ c. omega (arith, few-at c.before.before.before)) (λ c. omega arith) (λ c. omega arith) (λ c. omega (arith, few-at c.before.before.before))
     (λ c. omega (arith, few-at (ended c))) (λ c. omega (arith, odd-at (ended c))) (λ c. omega (arith, odd-at (ended c), few-at (ended c))) returns-2)

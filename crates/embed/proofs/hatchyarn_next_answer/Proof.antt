@@ -6,5 +6,5 @@ use Rattle.embed.proofs.hatchyarn_next_answer.Tie as tie
 returns : tie.Need-returns
 returns c = cc
 
-pub hatchyarn-next-answer-spec : {M : Type 1} → statement M
-hatchyarn-next-answer-spec = tie.close (tie.spec (λ c κs. search rules) (λ c κs. search rules) returns)
+pub hatchyarn_next_answer_spec : {M : Type 1} → statement M
+hatchyarn_next_answer_spec = tie.close (tie.spec (λ c κs. search rules) (λ c κs. search rules) returns)

@@ -11,5 +11,5 @@ returns c =
     let entry = done.before.before.before.before.before in
     tells plus entry.args.x.now entry.args.y.now entry.args.carry entry.args.out.now entry.args.carry-out.now done.add.ensures c.tell.ensures.0 c.tell.ensures.1
 
-pub hatchyarn-packed-add-spec : {M : Type 1} → statement M
-hatchyarn-packed-add-spec = tie.close (tie.spec (λ c κs. search rules) (λ c κs. search rules) (λ c. search rules) returns)
+pub hatchyarn_packed_add_spec : {M : Type 1} → statement M
+hatchyarn_packed_add_spec = tie.close (tie.spec (λ c κs. search rules) (λ c κs. search rules) (λ c. search rules) returns)

@@ -11,5 +11,5 @@ returns c =
     let entry = done.before.before.before.before.before in
     tells minus entry.args.x.now entry.args.y.now entry.args.borrow entry.args.out.now entry.args.borrow-out.now done.subtract.ensures c.tell.ensures.0 c.tell.ensures.1
 
-pub hatchyarn-packed-subtract-spec : {M : Type 1} → statement M
-hatchyarn-packed-subtract-spec = tie.close (tie.spec (λ c κs. search rules) (λ c κs. search rules) (λ c. search rules) returns)
+pub hatchyarn_packed_subtract_spec : {M : Type 1} → statement M
+hatchyarn_packed_subtract_spec = tie.close (tie.spec (λ c κs. search rules) (λ c κs. search rules) (λ c. search rules) returns)

@@ -6,5 +6,5 @@ use Rattle.embed.proofs.hatchyarn_read_answer.Tie as tie
 returns : tie.Need-returns
 returns c = (cc, cc)
 
-pub hatchyarn-read-answer-spec : {M : Type 1} → statement M
-hatchyarn-read-answer-spec = tie.close (tie.spec (λ c κs. search rules) (λ c κs. search rules) returns)
+pub hatchyarn_read_answer_spec : {M : Type 1} → statement M
+hatchyarn_read_answer_spec = tie.close (tie.spec (λ c κs. search rules) (λ c κs. search rules) returns)

@@ -2,7 +2,7 @@
 use native.Mathlib.Omega.{arith}
 use borrow.Author.Rules.{rules}
 use Rattle.negate.specs.Views.{pair16}
-use Rattle.negate.proofs.{NegateLaws.second-negative, NegateLaws.second-positive, make_positive16.Statement.statement}
+use Rattle.negate.proofs.{NegateLaws.second-negative, NegateLaws.second_positive, make_positive16.Statement.statement}
 use Rattle.negate.proofs.make_positive16.Tie as tie
 
 returns : tie.Need-returns
@@ -11,7 +11,7 @@ returns c =
     second-negative 16 a.tmpb (pair16 a.from) (omega arith) (omega arith) c.before.before.before.if1.true c.before.before.alu-neg16.ensures
 
 returns-2 : tie.Need-returns-2
-returns-2 c = let a = c.before.before.args in second-positive 16 a.tmpb (pair16 a.from) (omega arith) (omega arith) c.before.if1.false
+returns-2 c = let a = c.before.before.args in second_positive 16 a.tmpb (pair16 a.from) (omega arith) (omega arith) c.before.if1.false
 
-pub make-positive16-spec : {M : Type 1} → statement M
-make-positive16-spec = tie.close (tie.spec (λ c κs. search rules) (λ c. search rules) (λ c. search rules) returns returns-2)
+pub make_positive16_spec : {M : Type 1} → statement M
+make_positive16_spec = tie.close (tie.spec (λ c κs. search rules) (λ c. search rules) (λ c. search rules) returns returns-2)

@@ -7,5 +7,5 @@ use Rattle.negate.proofs.negate_pair16.Tie as tie
 returns : tie.Need-returns
 returns c = pair_is 16 _ (omega arith) (omega arith) c.before.before.before.alu-neg16.ensures c.before.before.alu-sbb16.ensures
 
-pub negate-pair16-spec : {M : Type 1} → statement M
-negate-pair16-spec = tie.close (tie.spec (λ c κs. search rules) (λ c κs. search rules) (λ c. search rules) returns)
+pub negate_pair16_spec : {M : Type 1} → statement M
+negate_pair16_spec = tie.close (tie.spec (λ c κs. search rules) (λ c κs. search rules) (λ c. search rules) returns)

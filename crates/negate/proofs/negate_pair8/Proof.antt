@@ -7,5 +7,5 @@ use Rattle.negate.proofs.negate_pair8.Tie as tie
 returns : tie.Need-returns
 returns c = pair_is 8 _ (omega arith) (omega arith) c.before.before.before.alu-neg8.ensures c.before.before.alu-sbb8.ensures
 
-pub negate-pair8-spec : {M : Type 1} → statement M
-negate-pair8-spec = tie.close (tie.spec (λ c κs. search rules) (λ c κs. search rules) (λ c. search rules) returns)
+pub negate_pair8_spec : {M : Type 1} → statement M
+negate_pair8_spec = tie.close (tie.spec (λ c κs. search rules) (λ c κs. search rules) (λ c. search rules) returns)

@@ -11,7 +11,7 @@ returns-2 c =
     let e = c.before.before.before.before.before in
     rw (← e.before.same_answer.ensures, e.if1.false)
 
-pub differs-spec : {M : Type 1} → statement M
-differs-spec =
+pub differs_spec : {M : Type 1} → statement M
+differs_spec =
     tie.close
     (tie.spec (λ c κs. search rules) returns (λ c. search rules) (λ c κs. search rules) (λ c κs. search rules) (λ c. search rules) (λ c κs. search rules) returns-2)

@@ -9,8 +9,8 @@ invariant-loop buffer₀ replayed₀ kept₀ turns₀ buffer replayed kept turns
 abbrev decreases-loop : tie.decreases-loop
 decreases-loop buffer₀ replayed₀ kept₀ turns₀ buffer replayed kept turns = turns
 
-pub replay-all-spec : {M : Type 1} → statement M
-replay-all-spec =
+pub replay_all_spec : {M : Type 1} → statement M
+replay_all_spec =
     tie.close
     (tie.spec invariant-loop decreases-loop (λ c. search rules) (λ c κs. search rules) (λ c. search rules) (λ c. search rules) (λ c. search rules)
     (λ c. search rules) (λ c. search rules) (λ c. search rules) (λ c. search rules))

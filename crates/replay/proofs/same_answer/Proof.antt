@@ -4,8 +4,8 @@ use Rattle.std.proofs.Common.{ℕ, ◌-◌, ◌≤◌, arith}
 use lib.{ListN.length, ListN.take, ListN.drop, ListN.replicate, ListN.length-drop, Seq.length-take-le, Seq.take_all, Seq.take-append-le}
 use borrow.Author.{Needs.needs, Tests.lt-ltb, Tests.le-ltb}
 use Rattle.line.specs.One.{text_of, answered}
-use Rattle.line.proofs.Turns.{textOf-length}
-use Rattle.replay.specs.Record.{sameText, right}
+use Rattle.line.proofs.Turns.{text_of_length}
+use Rattle.replay.specs.Record.{same_text, right}
 use Rattle.replay.proofs.{RecordLaws.tells, same_answer.Statement.statement}
 use Rattle.replay.proofs.same_answer.Tie as tie
 
@@ -14,7 +14,7 @@ digits_are : (recorded room : List ℕ) → length room ≡ 19 → take 18 (answ
 digits_are recorded room n =
     let request = drop 19 recorded in
     let whole : take (length recorded - 19) request ≡ request = take_all (length recorded - 19) request (omega (arith, length-drop 19 recorded)) in
-    let behind : 18 ≤ length (text_of request) = omega (arith, textOf-length request) in
+    let behind : 18 ≤ length (text_of request) = omega (arith, text_of_length request) in
     rw (whole, n, take-append-le 18 (text_of request) (drop 19 room) behind)
 
 returns : tie.Need-returns
@@ -37,10 +37,10 @@ returns-2 c =
     let recorded = c.before.before.before.before.before.before.before.before.before.args.recorded.now in
     let digits = ap (take 18) line.ensures.1 ∙ digits_are recorded (replicate 19 0) refl in
     rw (le-ltb _ _ c.before.before.before.before.before.before.before.if1.false)
-    (tells c.same.result (take 18 recorded) (take 18 line.new.1.0) c.same.ensures.0 c.same.ensures.1 ∙ ap (sameText (take 18 recorded)) digits)
+    (tells c.same.result (take 18 recorded) (take 18 line.new.1.0) c.same.ensures.0 c.same.ensures.1 ∙ ap (same_text (take 18 recorded)) digits)
 
-pub same-answer-spec : {M : Type 1} → statement M
-same-answer-spec =
+pub same_answer_spec : {M : Type 1} → statement M
+same_answer_spec =
     tie.close
     (tie.spec returns (λ c. search needs) (λ c. search needs) (λ c. search needs) (λ c. search needs) (λ c κs. search needs) slice-aggregate-same
     array-share-prefix-answer slice-aggregate-same-2 (λ c κs. search needs) returns-2)

@@ -11,5 +11,5 @@ returns c = let a = c.before.before.args in c.magnitude-of.ensures ∙ ap (λ (s
 returns-2 : tie.Need-returns-2
 returns-2 c = let a = c.before.args in ap (λ (s : Bool). magnitude s a.bits a.number) (sym c.if1.false)
 
-pub magnitude-by-spec : {M : Type 1} → statement M
-magnitude-by-spec = tie.close (tie.spec (λ c κs. search rules) returns returns-2)
+pub magnitude_by_spec : {M : Type 1} → statement M
+magnitude_by_spec = tie.close (tie.spec (λ c κs. search rules) returns returns-2)

@@ -2,14 +2,14 @@
 use mathlib.Core.{Path.refl, Path.sym, Path.◌∙◌, Logic.inl, Logic.inr}
 use native.Mathlib.Omega.{arith}
 use borrow.Author.Rules.{rules}
-use Rattle.roads.proofs.{Rows.told-mode, Rows.told-word, Rows.byte_fits, Rows.told-byte-large, Rows.told-byte, roads.Statement.statement}
+use Rattle.roads.proofs.{Rows.told_mode, Rows.told-word, Rows.byte_fits, Rows.told_byte_large, Rows.told-byte, roads.Statement.statement}
 use Rattle.roads.proofs.roads.Tie as tie
 
 mode : tie.Need-returns
 mode c =
     let at = c.before.before in
     let a = at.before.args in
-    c.none.ensures ∙ sym (told-mode a.mode a.dividend a.divisor (omega (arith, at.if1.true)))
+    c.none.ensures ∙ sym (told_mode a.mode a.dividend a.divisor (omega (arith, at.if1.true)))
 
 word : tie.Need-returns-2
 word c =
@@ -24,7 +24,7 @@ large c =
     let narrow = at.before in
     let first = narrow.before in
     let a = first.before.args in
-    c.none2.ensures ∙ told-byte-large a.mode a.dividend a.divisor (omega (arith, first.if1.false)) narrow.if2.false at.if3.true
+    c.none2.ensures ∙ told_byte_large a.mode a.dividend a.divisor (omega (arith, first.if1.false)) narrow.if2.false at.if3.true
 
 byte : tie.Need-returns-4
 byte c =
@@ -35,8 +35,8 @@ byte c =
     let fit = byte_fits at.if3.false in
     c.told2.ensures ∙ told-byte a.mode a.dividend a.divisor (omega (arith, first.if1.false)) narrow.if2.false fit.0 fit.1
 
-pub roads-spec : {M : Type 1} → statement M
-roads-spec =
+pub roads_spec : {M : Type 1} → statement M
+roads_spec =
     tie.close
     (tie.spec (λ c κs. search rules) mode (λ c κs. (inr refl, omega arith, omega arith)) word (λ c. search rules) (λ c. search rules) (λ c κs. search rules) large
     (λ c κs. let fit = byte_fits c.before.if3.false in (inl refl, fit.0, fit.1)) byte)

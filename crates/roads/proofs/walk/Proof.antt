@@ -29,8 +29,8 @@ by_word c =
     let a = at.before.args in
     walked 16 a.whole a.tmpb c.before.cord16.ensures (wider at.before.requires.0 at.if1.false)
 
-pub walk-spec : {M : Type 1} → statement M
-walk-spec =
+pub walk_spec : {M : Type 1} → statement M
+walk_spec =
     tie.close
     (tie.spec (λ c. omega (arith, byte c)) (λ c. omega (arith, byte c)) (λ c. omega arith) (λ c κs. search rules) by_byte (λ c. omega (arith, word c)) (λ c. omega (arith, word c)) (λ c. omega arith)
     (λ c κs. search rules) by_word)

@@ -2,14 +2,14 @@
 use mathlib.Core.Path.{sym, ◌∙◌}
 use native.Mathlib.Omega.{arith}
 use borrow.Author.Rules.{rules}
-use Rattle.trap.proofs.{Rows.told-mode, Rows.told-word, Rows.told-byte-large, Rows.told-byte, would_trap.Statement.statement}
+use Rattle.trap.proofs.{Rows.told_mode, Rows.told-word, Rows.told_byte_large, Rows.told-byte, would_trap.Statement.statement}
 use Rattle.trap.proofs.would_trap.Tie as tie
 
 mode : tie.Need-returns
 mode c =
     let at = c.before.before in
     let a = at.before.args in
-    c.closed.ensures ∙ sym (told-mode a.mode a.dividend a.divisor (omega (arith, at.if1.true)))
+    c.closed.ensures ∙ sym (told_mode a.mode a.dividend a.divisor (omega (arith, at.if1.true)))
 
 word : tie.Need-returns-2
 word c =
@@ -21,7 +21,7 @@ large : tie.Need-returns-3
 large c =
     let at = c.before.before.before in
     let a = at.before.before.args in
-    c.closed2.ensures ∙ told-byte-large a.mode a.dividend a.divisor (omega (arith, at.before.if1.false)) at.if2.false c.before.before.if3.true
+    c.closed2.ensures ∙ told_byte_large a.mode a.dividend a.divisor (omega (arith, at.before.if1.false)) at.if2.false c.before.before.if3.true
 
 byte : tie.Need-returns-4
 byte c =
@@ -29,8 +29,8 @@ byte c =
     let a = at.before.before.args in
     told-byte a.mode a.dividend a.divisor (omega (arith, at.before.if1.false)) at.if2.false c.before.if3.false c.would-trap8.ensures
 
-pub would-trap-spec : {M : Type 1} → statement M
-would-trap-spec =
+pub would_trap_spec : {M : Type 1} → statement M
+would_trap_spec =
     tie.close
     (tie.spec (λ c κs. search rules) mode (λ c κs. search rules) (λ c. search rules) word (λ c. search rules) (λ c. search rules) (λ c κs. search rules) large
     (λ c. search rules) (λ c. search rules) (λ c κs. search rules) (λ c. search rules) byte)

@@ -7,5 +7,5 @@ use Rattle.alu.proofs.at_once.sign.Tie as tie
 returns : tie.Need-returns
 returns c = top_digit c.args.bits c.args.number (omega arith) (omega arith)
 
-pub sign-spec : {M : Type 1} → statement M
-sign-spec = tie.close (tie.spec (λ c. search rules) (λ c. search rules) (λ c. search rules) returns)
+pub sign_spec : {M : Type 1} → statement M
+sign_spec = tie.close (tie.spec (λ c. search rules) (λ c. search rules) (λ c. search rules) returns)

@@ -1,13 +1,13 @@
 -- `alu::last::right_o16` meets its contract, by the law of O rightward at the width 16. Assumes nothing.
 use native.Mathlib.Omega.{arith}
 use borrow.Author.Rules.{rules}
-use Rattle.alu.proofs.{StepLaws.right-o, last.right_o16.Statement.statement}
+use Rattle.alu.proofs.{StepLaws.right_o_lem, last.right_o16.Statement.statement}
 use Rattle.alu.proofs.last.right_o16.Tie as tie
 
 returns : tie.Need-returns
 returns c =
     let a = c.before.args in
-    right-o 16 a.result a.count a.carry (omega arith) (omega arith) c.of-last.ensures
+    right_o_lem 16 a.result a.count a.carry (omega arith) (omega arith) c.of-last.ensures
 
-pub right-o16-spec : {M : Type 1} → statement M
-right-o16-spec = tie.close (tie.spec (λ c κs. search rules) returns)
+pub right_o16_spec : {M : Type 1} → statement M
+right_o16_spec = tie.close (tie.spec (λ c κs. search rules) returns)

@@ -3,7 +3,7 @@ use mathlib.Core.Path.{ap, ◌∙◌}
 use native.Mathlib.Omega.{arith}
 use borrow.Author.Rules.{rules}
 use Rattle.numbers.proofs.BitLaws.{bit_le}
-use Rattle.alu.specs.Shift.{leftO, leftward}
+use Rattle.alu.specs.Shift.{left_o, leftward}
 use Rattle.alu.proofs.{WithC.rcl-done, rotate.alu_rcl16.Statement.statement}
 use Rattle.alu.proofs.rotate.alu_rcl16.Tie as tie
 
@@ -15,9 +15,9 @@ unfolding leftward
 returns c =
     let at = c.before in
     let a = at.before.args in
-    c.left-o16.ensures ∙ ap (leftO 16 a.count) (rcl-done 16 a.value a.count (omega arith) (omega arith) a.carry _ at.rol.ensures (omega arith))
+    c.left-o16.ensures ∙ ap (left_o 16 a.count) (rcl-done 16 a.value a.count (omega arith) (omega arith) a.carry _ at.rol.ensures (omega arith))
 
-pub alu-rcl16-spec : {M : Type 1} → statement M
-alu-rcl16-spec =
+pub alu_rcl16_spec : {M : Type 1} → statement M
+alu_rcl16_spec =
     tie.close
     (tie.spec (λ c. search rules) (λ c. search rules) (λ c. omega (arith, bit_le c.args.carry)) (λ c. omega (arith, bit_le c.args.carry)) rol-requires (λ c. search rules) (λ c κs. search rules) returns)

@@ -3,7 +3,7 @@ use mathlib.Core.Path.{ap, ◌∙◌}
 use native.Mathlib.Omega.{arith}
 use borrow.Author.Rules.{rules}
 use Rattle.numbers.proofs.BitLaws.{bit_le}
-use Rattle.alu.specs.Shift.{rightO, rightward}
+use Rattle.alu.specs.Shift.{right_o, rightward}
 use Rattle.alu.proofs.{WithC.rcr-done, rotate.alu_rcr16.Statement.statement}
 use Rattle.alu.proofs.rotate.alu_rcr16.Tie as tie
 
@@ -15,9 +15,9 @@ unfolding rightward
 returns c =
     let at = c.before in
     let a = at.before.args in
-    c.right-o16.ensures ∙ ap (rightO 16 a.count) (rcr-done 16 a.value a.count (omega arith) (omega arith) a.carry _ at.ror.ensures (omega arith))
+    c.right-o16.ensures ∙ ap (right_o 16 a.count) (rcr-done 16 a.value a.count (omega arith) (omega arith) a.carry _ at.ror.ensures (omega arith))
 
-pub alu-rcr16-spec : {M : Type 1} → statement M
-alu-rcr16-spec =
+pub alu_rcr16_spec : {M : Type 1} → statement M
+alu_rcr16_spec =
     tie.close
     (tie.spec (λ c. search rules) (λ c. search rules) (λ c. omega (arith, bit_le c.args.carry)) (λ c. omega (arith, bit_le c.args.carry)) ror-requires (λ c. search rules) (λ c κs. search rules) returns)

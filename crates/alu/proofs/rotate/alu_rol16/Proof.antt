@@ -2,7 +2,7 @@
 use mathlib.Core.{Bool.false, Path.ap, Path.◌∙◌}
 use native.Mathlib.Omega.{arith}
 use borrow.Author.Rules.{rules}
-use Rattle.alu.specs.{Shift.leftO, Shift.leftward, Step.Rol, Step.before}
+use Rattle.alu.specs.{Shift.left_o, Shift.leftward, Step.Rol, Step.before}
 use Rattle.alu.proofs.{StepLaws.steps-keep, WithC.rol-done, rotate.alu_rol16.Statement.statement}
 use Rattle.alu.proofs.rotate.alu_rol16.Tie as tie
 
@@ -16,7 +16,7 @@ unfolding leftward
 returns c =
     let at = c.before in
     let a = at.before.before.args in
-    c.left-o16.ensures ∙ ap (leftO 16 a.count) (rol-done 16 a.value (omega arith) (omega arith) a.count at.before.rol.ensures at.of-last.ensures)
+    c.left-o16.ensures ∙ ap (left_o 16 a.count) (rol-done 16 a.value (omega arith) (omega arith) a.count at.before.rol.ensures at.of-last.ensures)
 
-pub alu-rol16-spec : {M : Type 1} → statement M
-alu-rol16-spec = tie.close (tie.spec (λ c κs. search rules) fits (λ c κs. search rules) (λ c κs. search rules) returns)
+pub alu_rol16_spec : {M : Type 1} → statement M
+alu_rol16_spec = tie.close (tie.spec (λ c κs. search rules) fits (λ c κs. search rules) (λ c κs. search rules) returns)

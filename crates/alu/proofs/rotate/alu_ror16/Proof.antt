@@ -2,7 +2,7 @@
 use mathlib.Core.{Bool.false, Path.ap, Path.◌∙◌}
 use native.Mathlib.Omega.{arith}
 use borrow.Author.Rules.{rules}
-use Rattle.alu.specs.{Shift.rightO, Shift.rightward, Step.Ror, Step.before}
+use Rattle.alu.specs.{Shift.right_o, Shift.rightward, Step.Ror, Step.before}
 use Rattle.alu.proofs.{StepLaws.steps-keep, WithC.ror-done, rotate.alu_ror16.Statement.statement}
 use Rattle.alu.proofs.rotate.alu_ror16.Tie as tie
 
@@ -16,7 +16,7 @@ unfolding rightward
 returns c =
     let at = c.before in
     let a = at.before.before.args in
-    c.right-o16.ensures ∙ ap (rightO 16 a.count) (ror-done 16 a.value (omega arith) (omega arith) a.count at.before.ror.ensures at.of-last.ensures)
+    c.right-o16.ensures ∙ ap (right_o 16 a.count) (ror-done 16 a.value (omega arith) (omega arith) a.count at.before.ror.ensures at.of-last.ensures)
 
-pub alu-ror16-spec : {M : Type 1} → statement M
-alu-ror16-spec = tie.close (tie.spec (λ c κs. search rules) fits (λ c κs. search rules) (λ c κs. search rules) returns)
+pub alu_ror16_spec : {M : Type 1} → statement M
+alu_ror16_spec = tie.close (tie.spec (λ c κs. search rules) fits (λ c κs. search rules) (λ c κs. search rules) returns)

@@ -2,7 +2,7 @@
 use mathlib.Core.{Bool.false, Path.ap, Path.◌∙◌}
 use native.Mathlib.Omega.{arith}
 use borrow.Author.Rules.{rules}
-use Rattle.alu.specs.{Shift.rightO, Shift.rightward, Step.Ror, Step.before}
+use Rattle.alu.specs.{Shift.right_o, Shift.rightward, Step.Ror, Step.before}
 use Rattle.alu.proofs.{StepLaws.steps-keep, WithC.ror-done, rotate.alu_ror8.Statement.statement}
 use Rattle.alu.proofs.rotate.alu_ror8.Tie as tie
 
@@ -16,7 +16,7 @@ unfolding rightward
 returns c =
     let at = c.before in
     let a = at.before.before.args in
-    c.right-o8.ensures ∙ ap (rightO 8 a.count) (ror-done 8 a.value (omega arith) (omega arith) a.count at.before.ror.ensures at.of-last.ensures)
+    c.right-o8.ensures ∙ ap (right_o 8 a.count) (ror-done 8 a.value (omega arith) (omega arith) a.count at.before.ror.ensures at.of-last.ensures)
 
-pub alu-ror8-spec : {M : Type 1} → statement M
-alu-ror8-spec = tie.close (tie.spec (λ c κs. search rules) fits (λ c κs. search rules) (λ c κs. search rules) returns)
+pub alu_ror8_spec : {M : Type 1} → statement M
+alu_ror8_spec = tie.close (tie.spec (λ c κs. search rules) fits (λ c κs. search rules) (λ c κs. search rules) returns)

@@ -18,5 +18,5 @@ returns c =
     let a = c.before.args in
     sar-done 8 a.value a.count (omega arith) (omega arith) c.sar.ensures
 
-pub alu-sar8-spec : {M : Type 1} → statement M
-alu-sar8-spec = tie.close (tie.spec (λ c. search rules) (λ c. search rules) (λ c κs. search rules) fits returns)
+pub alu_sar8_spec : {M : Type 1} → statement M
+alu_sar8_spec = tie.close (tie.spec (λ c. search rules) (λ c. search rules) (λ c κs. search rules) fits returns)

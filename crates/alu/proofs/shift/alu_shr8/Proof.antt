@@ -18,5 +18,5 @@ returns c =
     let a = c.before.args in
     shr-done 8 a.value a.count (omega arith) (omega arith) c.shr.ensures
 
-pub alu-shr8-spec : {M : Type 1} → statement M
-alu-shr8-spec = tie.close (tie.spec (λ c. search rules) (λ c. search rules) (λ c κs. search rules) fits returns)
+pub alu_shr8_spec : {M : Type 1} → statement M
+alu_shr8_spec = tie.close (tie.spec (λ c. search rules) (λ c. search rules) (λ c κs. search rules) fits returns)

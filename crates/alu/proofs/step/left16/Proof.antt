@@ -7,5 +7,5 @@ use Rattle.alu.proofs.step.left16.Tie as tie
 returns : tie.Need-returns
 returns c = left_is 16 c.args.value c.args.enters (omega arith) (omega arith)
 
-pub left16-spec : {M : Type 1} → statement M
-left16-spec = tie.close (tie.spec (λ c. search rules) returns)
+pub left16_spec : {M : Type 1} → statement M
+left16_spec = tie.close (tie.spec (λ c. search rules) returns)

@@ -7,5 +7,5 @@ use Rattle.alu.proofs.step.left8.Tie as tie
 returns : tie.Need-returns
 returns c = left_is 8 c.args.value c.args.enters (omega arith) (omega arith)
 
-pub left8-spec : {M : Type 1} → statement M
-left8-spec = tie.close (tie.spec (λ c. search rules) returns)
+pub left8_spec : {M : Type 1} → statement M
+left8_spec = tie.close (tie.spec (λ c. search rules) returns)

@@ -7,5 +7,5 @@ use Rattle.alu.proofs.step.right16.Tie as tie
 returns : tie.Need-returns
 returns c = right_is 16 c.args.value c.args.enters (omega arith) (omega arith)
 
-pub right16-spec : {M : Type 1} → statement M
-right16-spec = tie.close (tie.spec (λ c. search rules) (λ c. search rules) (λ c. search rules) (λ c. search rules) returns)
+pub right16_spec : {M : Type 1} → statement M
+right16_spec = tie.close (tie.spec (λ c. search rules) (λ c. search rules) (λ c. search rules) (λ c. search rules) returns)

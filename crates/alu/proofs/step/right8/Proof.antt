@@ -7,5 +7,5 @@ use Rattle.alu.proofs.step.right8.Tie as tie
 returns : tie.Need-returns
 returns c = right_is 8 c.args.value c.args.enters (omega arith) (omega arith)
 
-pub right8-spec : {M : Type 1} → statement M
-right8-spec = tie.close (tie.spec (λ c. search rules) (λ c. search rules) (λ c. search rules) (λ c. search rules) returns)
+pub right8_spec : {M : Type 1} → statement M
+right8_spec = tie.close (tie.spec (λ c. search rules) (λ c. search rules) (λ c. search rules) (λ c. search rules) returns)

@@ -3,5 +3,5 @@ use borrow.Author.Rules.{rules}
 use Rattle.answer.proofs.answer.of_co16.Statement.{statement}
 use Rattle.answer.proofs.answer.of_co16.Tie as tie
 
-pub of-co16-spec : {M : Type 1} → statement M
-of-co16-spec = tie.close (tie.spec (λ c κs. search rules) (λ c κs. search rules) (λ c κs. search rules) (λ c κs. search rules) (λ c. cc))
+pub of_co16_spec : {M : Type 1} → statement M
+of_co16_spec = tie.close (tie.spec (λ c κs. search rules) (λ c κs. search rules) (λ c κs. search rules) (λ c κs. search rules) (λ c. cc))

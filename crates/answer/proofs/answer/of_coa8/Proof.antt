@@ -3,5 +3,5 @@ use borrow.Author.Rules.{rules}
 use Rattle.answer.proofs.answer.of_coa8.Statement.{statement}
 use Rattle.answer.proofs.answer.of_coa8.Tie as tie
 
-pub of-coa8-spec : {M : Type 1} → statement M
-of-coa8-spec = tie.close (tie.spec (λ c κs. search rules) (λ c κs. search rules) (λ c. search rules) (λ c κs. search rules) (λ c κs. search rules) (λ c. cc))
+pub of_coa8_spec : {M : Type 1} → statement M
+of_coa8_spec = tie.close (tie.spec (λ c κs. search rules) (λ c κs. search rules) (λ c. search rules) (λ c κs. search rules) (λ c κs. search rules) (λ c. cc))

@@ -2,16 +2,16 @@
 use mathlib.Core.Path.{◌∙◌}
 use borrow.Author.Rules.{rules}
 use Rattle.divide.specs.Views.{outcome16}
-use Rattle.answer.proofs.{AnswerLaws.by-outcome, AnswerLaws.refused-with, answer.of_divided16.Statement.statement}
+use Rattle.answer.proofs.{AnswerLaws.by_outcome, AnswerLaws.refused_with, answer.of_divided16.Statement.statement}
 use Rattle.answer.proofs.answer.of_divided16.Tie as tie
 
 accepting : tie.Need-returns
-accepting c = c.whole.ensures ∙ by-outcome outcome16 _ _ c.before.before.outcome.given.1
+accepting c = c.whole.ensures ∙ by_outcome outcome16 _ _ c.before.before.outcome.given.1
 
 refusing : tie.Need-returns-2
 refusing c =
     let told = c.before.before.before.outcome2.given in
-    refused-with told.0.0 c.before.refusal-status.ensures _ _ c.whole2.ensures ∙ by-outcome outcome16 _ _ told.1
+    refused_with told.0.0 c.before.refusal-status.ensures _ _ c.whole2.ensures ∙ by_outcome outcome16 _ _ told.1
 
-pub of-divided16-spec : {M : Type 1} → statement M
-of-divided16-spec = tie.close (tie.spec (λ c. search rules) (λ c κs. search rules) (λ c. search rules) (λ c. search rules) (λ c κs. search rules) accepting refusing)
+pub of_divided16_spec : {M : Type 1} → statement M
+of_divided16_spec = tie.close (tie.spec (λ c. search rules) (λ c κs. search rules) (λ c. search rules) (λ c. search rules) (λ c κs. search rules) accepting refusing)

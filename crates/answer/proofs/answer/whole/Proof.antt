@@ -8,5 +8,5 @@ returns c =
     let a = c.before.args in
     λ i. record { status = a.status; flags = c.to_word.ensures i; steps = a.steps; r = a.r; s = a.s }
 
-pub whole-spec : {M : Type 1} → statement M
-whole-spec = tie.close (tie.spec (λ c κs. search rules) returns)
+pub whole_spec : {M : Type 1} → statement M
+whole_spec = tie.close (tie.spec (λ c κs. search rules) returns)

@@ -8,7 +8,7 @@ use Rattle.answer.proofs.ask.ask_into.Tie as tie
 returns : tie.Need-returns
 returns c = let e = c.before.answer-raw.ensures in (ap (λ (a : Answer). a.status) e, ap parts e)
 
-pub ask-into-spec : {M : Type 1} → statement M
-ask-into-spec =
+pub ask_into_spec : {M : Type 1} → statement M
+ask_into_spec =
     tie.close
     (tie.spec (λ c κs. search rules) returns)

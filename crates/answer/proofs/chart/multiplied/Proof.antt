@@ -3,7 +3,7 @@ use mathlib.Core.Path.{sym, ap, ◌∙◌}
 use borrow.Author.{Tests.not-true, Tests.not-false, Needs.needs}
 use Rattle.flags.specs.declared.word.Flags.{Flags}
 use Rattle.request.specs.{Limits.largest, declared.operation.Operation.TheVariants.Multiply}
-use Rattle.answer.specs.Charted.{multipliedOf}
+use Rattle.answer.specs.Charted.{multiplied_of}
 use Rattle.answer.proofs.{AnswerLaws.inside, AnswerLaws.outside, AnswerLaws.product-byte, AnswerLaws.product-word, chart.multiplied.Statement.statement}
 use Rattle.answer.proofs.chart.multiplied.Tie as tie
 
@@ -24,7 +24,7 @@ byte c =
     let q = a.request in
     inside (Multiply a.mode) q (sym (ap largest told)) (sym (ap largest told)) at.fits2.ensures (not-false _ in-limits.if1.false)
     (λ h. product-byte a.mode q.x q.y taken.result told h.0 h.1 c.before.mul8.ensures c.of-product8.ensures
-    ∙ ap (λ (f : Flags). multipliedOf a.mode q.x q.y f) taken.ensures)
+    ∙ ap (λ (f : Flags). multiplied_of a.mode q.x q.y f) taken.ensures)
 
 word_out : tie.Need-returns-2
 word_out c =
@@ -43,10 +43,10 @@ word c =
     let q = a.request in
     inside (Multiply a.mode) q (sym (ap largest told)) (sym (ap largest told)) at.fits3.ensures (not-false _ in-limits.if2.false)
     (λ h. product-word a.mode q.x q.y taken.result told h.0 c.before.mul16.ensures c.of-product16.ensures
-    ∙ ap (λ (f : Flags). multipliedOf a.mode q.x q.y f) taken.ensures)
+    ∙ ap (λ (f : Flags). multiplied_of a.mode q.x q.y f) taken.ensures)
 
-pub multiplied-spec : {M : Type 1} → statement M
-multiplied-spec =
+pub multiplied_spec : {M : Type 1} → statement M
+multiplied_spec =
     tie.close
     (tie.spec (λ c κs. search needs) (λ c. search needs) (λ c κs. search needs) (λ c κs. search needs) byte-out (λ c. search needs) (λ c. search needs)
     (λ c κs. search needs) (λ c κs. search needs) (λ c. search needs) (λ c κs. search needs) (λ c κs. search needs) word_out (λ c. search needs)

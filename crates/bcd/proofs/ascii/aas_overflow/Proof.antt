@@ -4,5 +4,5 @@ use Rattle.std.proofs.Common.{rules}
 use Rattle.bcd.proofs.ascii.aas_overflow.Statement.{statement}
 use Rattle.bcd.proofs.ascii.aas_overflow.Tie as tie
 
-pub aas-overflow-spec : {M : Type 1} → statement M
-aas-overflow-spec = tie.close (tie.spec (λ c κs. search rules) (λ c. ap (λ (b : Bool). c.before.args.aux-carry && b) c.between.ensures))
+pub aas_overflow_spec : {M : Type 1} → statement M
+aas_overflow_spec = tie.close (tie.spec (λ c κs. search rules) (λ c. ap (λ (b : Bool). c.before.args.aux-carry && b) c.between.ensures))

@@ -2,5 +2,5 @@
 use Rattle.bcd.proofs.ascii.aas_sign.Statement.{statement}
 use Rattle.bcd.proofs.ascii.aas_sign.Tie as tie
 
-pub aas-sign-spec : {M : Type 1} → statement M
-aas-sign-spec = tie.close (tie.spec (λ c. rw c.if1.true) (λ c. rw c.if1.false))
+pub aas_sign_spec : {M : Type 1} → statement M
+aas_sign_spec = tie.close (tie.spec (λ c. rw c.if1.true) (λ c. rw c.if1.false))

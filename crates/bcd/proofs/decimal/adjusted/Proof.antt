@@ -8,5 +8,5 @@ returns : tie.Need-returns
 unfolding decimal
 returns c = rw c.set-szp-flags-from-result-u8.ensures
 
-pub adjusted-spec : {M : Type 1} → statement M
-adjusted-spec = tie.close (tie.spec (λ c. search rules) (λ c. search rules) (λ c κs. search rules) returns)
+pub adjusted_spec : {M : Type 1} → statement M
+adjusted_spec = tie.close (tie.spec (λ c. search rules) (λ c. search rules) (λ c κs. search rules) returns)

@@ -3,8 +3,8 @@ use Rattle.std.proofs.Common.{◌||◌, rules}
 use Rattle.bcd.proofs.decimal.das_overflow.Statement.{statement}
 use Rattle.bcd.proofs.decimal.das_overflow.Tie as tie
 
-pub das-overflow-spec : {M : Type 1} → statement M
-das-overflow-spec =
+pub das_overflow_spec : {M : Type 1} → statement M
+das_overflow_spec =
     tie.close
     (tie.spec (λ c κs. search rules) (λ c κs. search rules) (λ c κs. search rules) (λ c κs. search rules) (λ c κs. search rules)
     (λ c. rw (c.before.before.if1.true, c.before.if2.true) c.between.ensures)

@@ -2,9 +2,9 @@
 use mathlib.Core.Path.{sym, ap, ◌∙◌}
 use borrow.Author.Rules.{rules}
 use Rattle.flags.specs.declared.word.Flags.{Flags}
-use Rattle.cord.specs.Cord.{bothRoads}
+use Rattle.cord.specs.Cord.{both_roads}
 use Rattle.divide.specs.{Divide.accepted, Finish.finished}
-use Rattle.idiv.specs.{Views.post8Answer, declared.PostIdiv8.PostIdiv8}
+use Rattle.idiv.specs.{Views.post8_answer, declared.PostIdiv8.PostIdiv8}
 use Rattle.divide.proofs.div.finish8.Statement.{statement}
 use Rattle.divide.proofs.div.finish8.Tie as tie
 
@@ -12,14 +12,14 @@ returns : tie.Need-returns
 returns c =
     let told = c.before.before.post.given in
     let a = c.before.before.before.before.args in
-    let w = bothRoads a.shifted-out a.no_borrow in
+    let w = both_roads a.shifted-out a.no_borrow in
     ap (λ (h : Flags). record { outcome = accepted (record { quotient = told.0.0; remainder = told.0.1.0 }); flags = h; roads = w; steps = told.0.1.1.0 }) c.with-co.ensures
-    ∙ ap (λ (p : PostIdiv8). finished (post8Answer p) a.compare w) (sym told.1)
+    ∙ ap (λ (p : PostIdiv8). finished (post8_answer p) a.compare w) (sym told.1)
 
 returns-2 : tie.Need-returns-2
 returns-2 c =
     let a = c.before.before.before.args in
-    ap (λ (p : PostIdiv8). finished (post8Answer p) a.compare (bothRoads a.shifted-out a.no_borrow)) (sym c.before.post2.given.1)
+    ap (λ (p : PostIdiv8). finished (post8_answer p) a.compare (both_roads a.shifted-out a.no_borrow)) (sym c.before.post2.given.1)
 
-pub finish8-spec : {M : Type 1} → statement M
-finish8-spec = tie.close (tie.spec (λ c. search rules) (λ c κs. search rules) (λ c. search rules) returns returns-2)
+pub finish8_spec : {M : Type 1} → statement M
+finish8_spec = tie.close (tie.spec (λ c. search rules) (λ c κs. search rules) (λ c. search rules) returns returns-2)

@@ -4,36 +4,36 @@ use Prim.Native.Nat.{ℕ}
 use native.Mathlib.{Nat.div-add-mod', Omega.arith}
 use borrow.Author.Rules.{rules}
 use Rattle.cord.specs.Cord as Cord
-use Rattle.cord.specs.{Cord.cord, Views.results8, Views.cordOutcome8, Views.cordAnswer8}
-use Rattle.divide.proofs.{DivLaws.few-steps, DivLaws.unsigned-refused, DivLaws.unsigned-accepted, div.unsigned_div8.Statement.statement}
+use Rattle.cord.specs.{Cord.cord, Views.results8, Views.cord_outcome8, Views.cord_answer8}
+use Rattle.divide.proofs.{DivLaws.few_steps, DivLaws.unsigned_refused, DivLaws.unsigned_accepted, div.unsigned_div8.Statement.statement}
 use Rattle.divide.proofs.div.unsigned_div8.Tie as tie
 
 -- CORD's answer on the whole dividend
-cord-at : (c : tie.After-cord8) → cordAnswer8 c.cord8.result ≡ cord 8 c.before.args.divisor c.before.args.dividend 5
+cord-at : (c : tie.After-cord8) → cord_answer8 c.cord8.result ≡ cord 8 c.before.args.divisor c.before.args.dividend 5
 cord-at c = c.cord8.ensures ∙ ap (λ (x : ℕ). cord 8 c.before.args.divisor x 5) (div-add-mod' c.before.args.dividend 256)
 
-accepted-at : (c : tie.After-outcome) → cordOutcome8 c.before.before.before.cord8.result.outcome ≡ Cord.accepted (results8 c.outcome.given.0.0)
-accepted-at c = ap cordOutcome8 c.outcome.given.1
+accepted-at : (c : tie.After-outcome) → cord_outcome8 c.before.before.before.cord8.result.outcome ≡ Cord.accepted (results8 c.outcome.given.0.0)
+accepted-at c = ap cord_outcome8 c.outcome.given.1
 
 few-cord : tie.Need-overflow-add-t14
 few-cord c =
     let at = c.before.before in
-    omega (arith, few-steps 8 _ _ 5 (omega arith) (cord-at at.before.before.before) (accepted-at at))
+    omega (arith, few_steps 8 _ _ 5 (omega arith) (cord-at at.before.before.before) (accepted-at at))
 
 returns : tie.Need-returns
 returns c =
     let at = c.before.before in
     let compared = at.before.before in
-    unsigned-accepted 8 _ _ _ _ (cord-at compared.before) (omega arith) (accepted-at at) compared.compare-flags8.ensures
+    unsigned_accepted 8 _ _ _ _ (cord-at compared.before) (omega arith) (accepted-at at) compared.compare-flags8.ensures
 
 returns-2 : tie.Need-returns-2
 returns-2 c =
     let told = c.before in
     let compared = told.before.before in
-    unsigned-refused 8 _ _ _ _ (cord-at compared.before) (ap cordOutcome8 told.enum_told.given.1) c.first-refusal.ensures compared.compare-flags8.ensures
+    unsigned_refused 8 _ _ _ _ (cord-at compared.before) (ap cord_outcome8 told.enum_told.given.1) c.first_refusal_lem.ensures compared.compare-flags8.ensures
 
-pub unsigned-div8-spec : {M : Type 1} → statement M
-unsigned-div8-spec =
+pub unsigned_div8_spec : {M : Type 1} → statement M
+unsigned_div8_spec =
     tie.close
     (tie.spec (λ c. search rules) (λ c. search rules) (λ c κs. search rules) (λ c κs. search rules) (λ c. search rules) few-cord (λ c. search rules)
     (λ c. search rules) returns returns-2)

@@ -14,5 +14,5 @@ bit-not-0 false = refl
 returns : tie.Need-returns
 returns c = ap (λ (x : ℕ). not (eqb x 0)) (c.before.requires.rule c.before.args.byte (search rules)) ∙ bit-not-0 _
 
-pub parity-spec : {M : Type 1} → statement M
-parity-spec = tie.close (tie.spec (λ c. search rules) returns)
+pub parity_spec : {M : Type 1} → statement M
+parity_spec = tie.close (tie.spec (λ c. search rules) returns)

@@ -1,14 +1,14 @@
 -- `flags::parity::parity_table` meets its contract: the rule is computed once, over all 256 entries. Assumes nothing.
 use mathlib.Core.Path.{refl}
 use lib.Count.{ones, ones_in}
-use Rattle.flags.specs.Parity.{evenOnes}
+use Rattle.flags.specs.Parity.{even_ones}
 use Rattle.numbers.proofs.Tables.{held}
 use Rattle.flags.proofs.parity.parity_table.Statement.{statement}
 use Rattle.flags.proofs.parity.parity_table.Tie as tie
 
 returns : tie.Need-returns
-unfolding evenOnes ones ones_in
+unfolding even_ones ones ones_in
 returns c = held tt refl
 
-pub parity-table-spec : {M : Type 1} → statement M
-parity-table-spec = tie.close (tie.spec returns)
+pub parity_table_spec : {M : Type 1} → statement M
+parity_table_spec = tie.close (tie.spec returns)

@@ -12,8 +12,8 @@ invariant-loop fd name buffer₀ room₀ kept₀ turns₀ buffer room kept turns
 abbrev decreases-loop : tie.decreases-loop
 decreases-loop fd name buffer₀ room₀ kept₀ turns₀ buffer room kept turns = turns
 
-pub answer-input-spec : {M : Type 1} → statement M
-answer-input-spec =
+pub answer_input_spec : {M : Type 1} → statement M
+answer_input_spec =
     tie.close
     (tie.spec invariant-loop decreases-loop (λ c. search rules) (λ c κs. search rules) (λ c. search rules) (λ c. search rules) (λ c. search rules)
     (λ c. search rules) (λ c. search rules) (λ c. search rules) (λ c. search rules) (λ c. search rules) (λ c. search rules) (λ c. search rules)

@@ -12,8 +12,8 @@ invariant-loop count end buffer₀ room₀ i₀ buffer room i = (length buffer �
 abbrev decreases-loop : tie.decreases-loop
 decreases-loop count end buffer₀ room₀ i₀ buffer room i = count - i
 
-pub answer-arguments-spec : {M : Type 1} → statement M
-answer-arguments-spec =
+pub answer_arguments_spec : {M : Type 1} → statement M
+answer_arguments_spec =
     tie.close
     (tie.spec invariant-loop decreases-loop (λ c. search rules) (λ c κs. search rules) (λ c. search rules) (λ c. search rules) (λ c. search rules)
     (λ c. search rules) (λ c. search rules) (λ c. search rules) (λ c. search rules) (λ c. search rules) (λ c. search rules))

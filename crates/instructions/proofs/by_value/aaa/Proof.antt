@@ -11,5 +11,5 @@ returns c =
     let a = word.before.before.args in
     over-adjust Aaa 0 a.regs (omega arith) (omega arith) word.from-word.ensures c.before.before.aaa.ensures c.before.of-adjusted.ensures c.in-ax.ensures
 
-pub aaa-spec : {M : Type 1} → statement M
-aaa-spec = tie.close (tie.spec (λ c κs. search rules) (λ c κs. search rules) (λ c κs. search rules) (λ c κs. search rules) (λ c κs. search rules) returns)
+pub aaa_spec : {M : Type 1} → statement M
+aaa_spec = tie.close (tie.spec (λ c κs. search rules) (λ c κs. search rules) (λ c κs. search rules) (λ c κs. search rules) (λ c κs. search rules) returns)

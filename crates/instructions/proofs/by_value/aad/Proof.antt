@@ -11,5 +11,5 @@ returns c =
     let a = word.before.before.args in
     over-adjust Aad a.imm8 a.regs (omega arith) (omega arith) word.from-word.ensures c.before.before.aad.ensures c.before.of-adjusted.ensures c.in-ax.ensures
 
-pub aad-spec : {M : Type 1} → statement M
-aad-spec = tie.close (tie.spec (λ c κs. search rules) (λ c κs. search rules) (λ c κs. search rules) (λ c κs. search rules) (λ c κs. search rules) returns)
+pub aad_spec : {M : Type 1} → statement M
+aad_spec = tie.close (tie.spec (λ c κs. search rules) (λ c κs. search rules) (λ c κs. search rules) (λ c κs. search rules) (λ c κs. search rules) returns)

@@ -11,5 +11,5 @@ returns c =
     let a = word.before.before.args in
     over-adjust Aas 0 a.regs (omega arith) (omega arith) word.from-word.ensures c.before.before.aas.ensures c.before.of-adjusted.ensures c.in-ax.ensures
 
-pub aas-spec : {M : Type 1} → statement M
-aas-spec = tie.close (tie.spec (λ c κs. search rules) (λ c κs. search rules) (λ c κs. search rules) (λ c κs. search rules) (λ c κs. search rules) returns)
+pub aas_spec : {M : Type 1} → statement M
+aas_spec = tie.close (tie.spec (λ c κs. search rules) (λ c κs. search rules) (λ c κs. search rules) (λ c κs. search rules) (λ c κs. search rules) returns)

@@ -10,5 +10,5 @@ good c = rw (sym c.before.is-flags.ensures ∙ c.if1.true)
 bad : tie.Need-returns-2
 bad c = rw (sym c.before.before.is-flags.ensures ∙ c.before.if1.false) c.zeros.ensures
 
-pub checked-spec : {M : Type 1} → statement M
-checked-spec = tie.close (tie.spec (λ c κs. search rules) good (λ c κs. search rules) bad)
+pub checked_spec : {M : Type 1} → statement M
+checked_spec = tie.close (tie.spec (λ c κs. search rules) good (λ c κs. search rules) bad)

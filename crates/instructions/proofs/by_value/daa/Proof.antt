@@ -11,5 +11,5 @@ returns c =
     let a = word.before.before.args in
     over-adjust Daa 0 a.regs (omega arith) (omega arith) word.from-word.ensures c.before.before.daa.ensures c.before.of-adjusted.ensures c.in-ax.ensures
 
-pub daa-spec : {M : Type 1} → statement M
-daa-spec = tie.close (tie.spec (λ c κs. search rules) (λ c κs. search rules) (λ c κs. search rules) (λ c κs. search rules) (λ c κs. search rules) returns)
+pub daa_spec : {M : Type 1} → statement M
+daa_spec = tie.close (tie.spec (λ c κs. search rules) (λ c κs. search rules) (λ c κs. search rules) (λ c κs. search rules) (λ c κs. search rules) returns)

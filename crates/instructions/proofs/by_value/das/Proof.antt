@@ -11,5 +11,5 @@ returns c =
     let a = word.before.before.args in
     over-adjust Das 0 a.regs (omega arith) (omega arith) word.from-word.ensures c.before.before.das.ensures c.before.of-adjusted.ensures c.in-ax.ensures
 
-pub das-spec : {M : Type 1} → statement M
-das-spec = tie.close (tie.spec (λ c κs. search rules) (λ c κs. search rules) (λ c κs. search rules) (λ c κs. search rules) (λ c κs. search rules) returns)
+pub das_spec : {M : Type 1} → statement M
+das_spec = tie.close (tie.spec (λ c κs. search rules) (λ c κs. search rules) (λ c κs. search rules) (λ c κs. search rules) (λ c κs. search rules) returns)

@@ -9,5 +9,5 @@ use Rattle.instructions.proofs.by_value.in_ax.Tie as tie
 returns : tie.Need-returns
 returns c = let r = c.before.before.args.regs in c.settle.ensures ∙ ap (λ (a : Answer). settled_of r a a.r r.dx) c.before.checked.ensures
 
-pub in-ax-spec : {M : Type 1} → statement M
-in-ax-spec = tie.close (tie.spec (λ c κs. search rules) (λ c κs. search rules) returns)
+pub in_ax_spec : {M : Type 1} → statement M
+in_ax_spec = tie.close (tie.spec (λ c κs. search rules) (λ c κs. search rules) returns)

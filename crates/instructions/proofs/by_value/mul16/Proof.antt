@@ -6,7 +6,7 @@ use borrow.Author.Rules.{rules}
 use Rattle.flags.specs.declared.word.Flags.{Flags}
 use Rattle.multiply.specs.Multiply.{multiply}
 use Rattle.request.specs.{declared.operation.Width.TheVariants.Word, declared.operation.Operation.TheVariants.Multiply}
-use Rattle.answer.specs.Charted.{ofProduct16}
+use Rattle.answer.specs.Charted.{of_product16}
 use Rattle.instructions.proofs.{NamedLaws.named-multiply, NamedLaws.width-told, NamedLaws.over-named, by_value.mul16.Statement.statement}
 use Rattle.instructions.proofs.by_value.mul16.Tie as tie
 
@@ -22,10 +22,10 @@ returns c =
     let a = start.args in
     over-named (Multiply (record { width = Word; signed = a.signed; rep = a.negate })) 0x10 _ true a.operand a.regs (named-multiply true a.signed a.negate) refl
     (width-told true a.signed a.negate) (fits start) (omega arith)
-    (made.of-product16.ensures ∙ ap ofProduct16 (made.before.mul16.ensures ∙ ap (λ (f : Flags). multiply 16 a.signed a.negate a.regs.ax a.operand f) word.from-word.ensures))
+    (made.of-product16.ensures ∙ ap of_product16 (made.before.mul16.ensures ∙ ap (λ (f : Flags). multiply 16 a.signed a.negate a.regs.ax a.operand f) word.from-word.ensures))
     c.before.checked.ensures refl refl c.settle.ensures
 
-pub mul16-spec : {M : Type 1} → statement M
-mul16-spec =
+pub mul16_spec : {M : Type 1} → statement M
+mul16_spec =
     tie.close
     (tie.spec (λ c κs. search rules) (λ c κs. search rules) (λ c κs. search rules) (λ c κs. search rules) (λ c κs. search rules) (λ c κs. search rules) returns)

@@ -10,5 +10,5 @@ stayed c = let a = c.before.before.before.before.before.args in left a.regs a.a 
 took : tie.Need-returns-2
 took c = let a = c.before.before.before.before.before.args in taken a.regs a.a _ _ c.before.count.ensures c.if1.false
 
-pub settle-spec : {M : Type 1} → statement M
-settle-spec = tie.close (tie.spec (λ c κs. search rules) stayed took)
+pub settle_spec : {M : Type 1} → statement M
+settle_spec = tie.close (tie.spec (λ c κs. search rules) stayed took)

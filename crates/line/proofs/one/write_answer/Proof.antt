@@ -6,5 +6,5 @@ use Rattle.line.proofs.one.write_answer.Tie as tie
 returns : tie.Need-returns
 returns c = (cc, cc)
 
-pub write-answer-spec : {M : Type 1} → statement M
-write-answer-spec = tie.close (tie.spec (λ c κs. search rules) (λ c κs. search rules) (λ c. search rules) returns)
+pub write_answer_spec : {M : Type 1} → statement M
+write_answer_spec = tie.close (tie.spec (λ c κs. search rules) (λ c κs. search rules) (λ c. search rules) returns)

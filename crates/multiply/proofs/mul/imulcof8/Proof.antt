@@ -2,7 +2,7 @@
 use native.Mathlib.Omega.{arith}
 use borrow.Author.Rules.{rules}
 use Rattle.corx.specs.Views.{halves8}
-use Rattle.multiply.proofs.{MulLaws.imulcof-is, mul.imulcof8.Statement.statement}
+use Rattle.multiply.proofs.{MulLaws.imulcof_is, mul.imulcof8.Statement.statement}
 use Rattle.multiply.proofs.mul.imulcof8.Tie as tie
 
 returns : tie.Need-returns
@@ -12,11 +12,11 @@ returns c =
     let sum = named.before.before in
     let word = sum.before.before in
     let a = word.before.args in
-    imulcof-is 8 (halves8 a.halves) a.flags (omega arith) (omega arith) word.sign_extended.ensures sum.alu-adc16.ensures named.with-coa.ensures
+    imulcof_is 8 (halves8 a.halves) a.flags (omega arith) (omega arith) word.sign_extended.ensures sum.alu-adc16.ensures named.with-coa.ensures
     szp.set-szp-flags-from-result-u16.ensures c.before.cof-tail.ensures.0
 
-pub imulcof8-spec : {M : Type 1} → statement M
-imulcof8-spec =
+pub imulcof8_spec : {M : Type 1} → statement M
+imulcof8_spec =
     tie.close
     (tie.spec (λ c κs. search rules) (λ c κs. search rules) (λ c κs. search rules) (λ c. search rules) (λ c. search rules) (λ c. search rules) (λ c. search rules)
     (λ c κs. search rules) (λ c κs. search rules) (λ c. search rules) returns)

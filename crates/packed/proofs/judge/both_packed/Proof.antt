@@ -4,12 +4,12 @@ use Prim.Native.Nat.{◌-◌, ◌≤◌}
 use native.Mathlib.Omega.{arith}
 use lib.ListN.{length, drop}
 use borrow.Author.Rules.{rules}
-use Rattle.packed.specs.Digits.{allPacked}
+use Rattle.packed.specs.Digits.{all_packed}
 use Rattle.packed.proofs.{JudgeLaws.one_more, JudgeLaws.seen, judge.both_packed.Statement.statement}
 use Rattle.packed.proofs.judge.both_packed.Tie as tie
 
 abbrev invariant-loop : tie.invariant-loop
-invariant-loop x y packed₀ i₀ packed i = (i ≤ length x) × ((packed && (allPacked (drop i x) && allPacked (drop i y))) ≡ (allPacked x && allPacked y))
+invariant-loop x y packed₀ i₀ packed i = (i ≤ length x) × ((packed && (all_packed (drop i x) && all_packed (drop i y))) ≡ (all_packed x && all_packed y))
 
 abbrev decreases-loop : tie.decreases-loop
 decreases-loop x y packed₀ i₀ packed i = length x - i
@@ -26,7 +26,7 @@ returns c =
     let entry = c.before.before.before.before in
     seen entry.args.x.now entry.args.y.now c.before.loop.i c.before.loop.packed (omega arith) (omega arith) ∙ c.before.loop.invariant.1
 
-pub both-packed-spec : {M : Type 1} → statement M
-both-packed-spec =
+pub both_packed_spec : {M : Type 1} → statement M
+both_packed_spec =
     tie.close
     (tie.spec invariant-loop decreases-loop (λ c. (omega arith, refl)) (λ c. omega arith) (λ c κs. search rules) (λ c. omega arith) (λ c κs. search rules) (λ c. omega arith) (λ c. omega arith) loop-again returns)

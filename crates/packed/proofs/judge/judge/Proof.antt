@@ -3,7 +3,7 @@ use mathlib.Core.{Path.◌≡◌, Path.sym, Path.◌∙◌, Bool.true, Bool.◌&
 use borrow.Author.{Needs.needs, Tests.not-true, Tests.not-false}
 use lib.ListN.{length}
 use Rattle.numbers.specs.Numbers.{between}
-use Rattle.packed.specs.Digits.{allPacked}
+use Rattle.packed.specs.Digits.{all_packed}
 use Rattle.packed.proofs.{JudgeLaws.differ, JudgeLaws.misfit, JudgeLaws.unpacked, JudgeLaws.roomless, JudgeLaws.admits, judge.judge.Statement.statement}
 use Rattle.packed.proofs.judge.judge.Tie as tie
 
@@ -23,7 +23,7 @@ returns-3 c =
     unpacked _ _ _ tested.before.before.if1.false (fits tested) (sym c.before.both-packed.ensures ∙ not-true _ c.if3.true)
 
 -- and so are all digits
-packed : (c : tie.Else3) → (allPacked c.before.before.before.before.before.before.before.args.x.now && allPacked c.before.before.before.before.before.before.before.args.y.now) ≡ true
+packed : (c : tie.Else3) → (all_packed c.before.before.before.before.before.before.before.args.x.now && all_packed c.before.before.before.before.before.before.before.args.y.now) ≡ true
 packed c = sym c.before.both-packed.ensures ∙ not-false _ c.if3.false
 
 returns-4 : tie.Need-returns-4
@@ -36,5 +36,5 @@ returns-5 c =
     let tested = c.before.before.before in
     admits _ _ _ tested.before.before.if1.false (fits tested) (packed c.before) c.if4.false
 
-pub judge-spec : {M : Type 1} → statement M
-judge-spec = tie.close (tie.spec returns (λ c κs. search needs) returns-2 (λ c κs. search needs) returns-3 returns-4 returns-5)
+pub judge_spec : {M : Type 1} → statement M
+judge_spec = tie.close (tie.spec returns (λ c κs. search needs) returns-2 (λ c κs. search needs) returns-3 returns-4 returns-5)

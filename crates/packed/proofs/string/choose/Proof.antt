@@ -7,7 +7,7 @@ use lib.ListN.{length, drop, length-set}
 use borrow.Author.Rules.{rules}
 use Rattle.numbers.proofs.BitLaws.{bit_le}
 use Rattle.packed.specs.Halves.{half_of, chosen, onto}
-use Rattle.packed.proofs.{HalvesLaws.choosing, HalvesLaws.choosing-more, HalvesLaws.all-chosen, HalvesLaws.chosen-first, string.choose.Statement.statement}
+use Rattle.packed.proofs.{HalvesLaws.choosing, HalvesLaws.choosing_more, HalvesLaws.all_chosen, HalvesLaws.chosen_first, string.choose.Statement.statement}
 use Rattle.packed.proofs.string.choose.Tie as tie
 
 abbrev invariant-loop : tie.invariant-loop
@@ -18,20 +18,20 @@ abbrev decreases-loop : tie.decreases-loop
 decreases-loop bytes halves size carry out₀ half₀ i₀ out half i = size - i
 
 loop-holds : tie.Need-loop-init invariant-loop decreases-loop
-loop-holds c = let one = bit_le c.args.carry in (omega arith, omega arith, refl, chosen-first _ _ _ _ _)
+loop-holds c = let one = bit_le c.args.carry in (omega arith, omega arith, refl, chosen_first _ _ _ _ _)
 
 loop-again : tie.Need-loop-preserved invariant-loop decreases-loop
 loop-again c =
     let l = c.before.before.before in
     let a = l.before.args in
     let k = l.loop.half + l.loop.i in
-    (omega arith, l.before.requires.0.within k, length-set l.loop.out l.loop.i _ ∙ l.loop.invariant.2, choosing-more a.bytes.now a.halves.now a.size l.loop.out l.loop.half l.loop.i (omega arith) (omega arith) ∙ l.loop.invariant.3)
+    (omega arith, l.before.requires.0.within k, length-set l.loop.out l.loop.i _ ∙ l.loop.invariant.2, choosing_more a.bytes.now a.halves.now a.size l.loop.out l.loop.half l.loop.i (omega arith) (omega arith) ∙ l.loop.invariant.3)
 
 returns : tie.Need-returns invariant-loop decreases-loop
 returns c =
     let l = c.before in
     let a = l.before.args in
-    all-chosen a.bytes.now a.halves.now a.size l.loop.out l.loop.half l.loop.i (omega arith) (omega arith) ∙ l.loop.invariant.3
+    all_chosen a.bytes.now a.halves.now a.size l.loop.out l.loop.half l.loop.i (omega arith) (omega arith) ∙ l.loop.invariant.3
 
 pub choose_spec : {M : Type 1} → statement M
 choose_spec =

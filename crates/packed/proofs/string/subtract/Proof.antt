@@ -14,5 +14,5 @@ returns-2 c =
     let entry = judged.before.before.before.before in
     refuses minus entry.args.x.now entry.args.y.now entry.args.borrow entry.args.out.now (sym judged.judge.ensures ∙ c.before.why.given.1)
 
-pub subtract-spec : {M : Type 1} → statement M
-subtract-spec = tie.close (tie.spec (λ c κs. search rules) (λ c. search rules) work-string-requires (λ c. search rules) (λ c. search rules) (λ c. search rules) returns-2)
+pub subtract_spec : {M : Type 1} → statement M
+subtract_spec = tie.close (tie.spec (λ c κs. search rules) (λ c. search rules) work-string-requires (λ c. search rules) (λ c. search rules) (λ c. search rules) returns-2)

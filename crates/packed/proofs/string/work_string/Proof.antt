@@ -1,6 +1,6 @@
 -- `packed::string::work_string` meets its contract: what is chosen of the bytes made for either carry is the string. Assumes nothing.
 use borrow.Author.Rules.{rules}
-use Rattle.packed.proofs.{JudgeLaws.admitted, HalvesLaws.fresh, HalvesLaws.work-done, string.work_string.Statement.statement}
+use Rattle.packed.proofs.{JudgeLaws.admitted, HalvesLaws.fresh, HalvesLaws.work_done, string.work_string.Statement.statement}
 use Rattle.packed.proofs.string.work_string.Tie as tie
 
 make-both-requires : tie.Need-make-both-requires
@@ -19,7 +19,7 @@ returns c =
     let choice = c.before.before in
     let both = choice.before.before.before.before.before.before in
     let entry = both.before.before.before.before.before.before in
-    work-done entry.args.subtract entry.args.x.now entry.args.y.now (admitted _ _ _ entry.requires).0 both.make-both.ensures entry.args.carry entry.args.out.now entry.requires choice.choose.ensures
+    work_done entry.args.subtract entry.args.x.now entry.args.y.now (admitted _ _ _ entry.requires).0 both.make-both.ensures entry.args.carry entry.args.out.now entry.requires choice.choose.ensures
 
-pub work-string-spec : {M : Type 1} → statement M
-work-string-spec = tie.close (tie.spec (λ c. search rules) (λ c. search rules) make-both-requires (λ c. search rules) (λ c. search rules) choose-requires (λ c. search rules) returns)
+pub work_string_spec : {M : Type 1} → statement M
+work_string_spec = tie.close (tie.spec (λ c. search rules) (λ c. search rules) make-both-requires (λ c. search rules) (λ c. search rules) choose-requires (λ c. search rules) returns)

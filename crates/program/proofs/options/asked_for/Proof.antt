@@ -12,8 +12,8 @@ invariant-loop argument₀ count i₀ argument i = length argument ≡ 4096
 abbrev decreases-loop : tie.decreases-loop
 decreases-loop argument₀ count i₀ argument i = count - i
 
-pub asked-for-spec : {M : Type 1} → statement M
-asked-for-spec =
+pub asked_for_spec : {M : Type 1} → statement M
+asked_for_spec =
     tie.close
     (tie.spec invariant-loop decreases-loop (λ c κs. search rules) (λ c κs. search rules) (λ c. search rules) (λ c. search rules) (λ c κs. search rules)
     (λ c. search rules) (λ c. search rules) (λ c κs. search rules) (λ c. search rules) (λ c. search rules) (λ c. search rules)

@@ -3,13 +3,13 @@ use mathlib.Core.{Path.◌≡◌, Path.sym, Path.ap, Path.◌∙◌, Bool.Bool}
 use native.Mathlib.Omega.{arith}
 use lib.{ListN.take, Seq.take_all}
 use borrow.Author.{Needs.needs, Tests.eq-eqb, Tests.ne_eqb, Tests.not-true, Tests.not-false}
-use Rattle.text.specs.Plain.{allDigits}
-use Rattle.readback.specs.Judge.{recordIn, judged, readBack}
+use Rattle.text.specs.Plain.{all_digits}
+use Rattle.readback.specs.Judge.{record_in, judged, read_back}
 use Rattle.readback.proofs.one.read_answer.Statement.{statement}
 use Rattle.readback.proofs.one.read_answer.Tie as tie
 
 returns : tie.Need-returns
-unfolding readBack
+unfolding read_back
 returns c = rw (ne_eqb _ _ c.if1.true)
 
 -- the first 18 bytes are all of them
@@ -17,23 +17,23 @@ whole : (c : tie.Else1) → take 18 c.before.before.args.line.now ≡ c.before.b
 whole c = take_all 18 _ (omega (arith, c.if1.false))
 
 -- whether they are digits, as it was tested
-tested : (c : tie.After-all-digits) (k : Bool) → c.all_digits.result ≡ k → allDigits c.before.before.before.args.line.now ≡ k
-tested c k e = ap allDigits (sym (whole c.before)) ∙ sym c.all_digits.ensures ∙ e
+tested : (c : tie.After-all-digits) (k : Bool) → c.all_digits.result ≡ k → all_digits c.before.before.before.args.line.now ≡ k
+tested c k e = ap all_digits (sym (whole c.before)) ∙ sym c.all_digits.ensures ∙ e
 
 returns-2 : tie.Need-returns-2
-unfolding readBack
+unfolding read_back
 returns-2 c = rw (eq-eqb _ _ c.before.before.if1.false, tested c.before _ (not-true _ c.if2.true))
 
 returns-3 : tie.Need-returns-3
-unfolding readBack
+unfolding read_back
 returns-3 c =
     let d = c.before.before in
     let e = whole d.before.before in
     rw (eq-eqb _ _ d.before.before.if1.false, tested d.before _ (not-false _ d.if2.false))
-    (c.judge.ensures ∙ ap judged (c.before.record-at.ensures ∙ ap recordIn e))
+    (c.judge.ensures ∙ ap judged (c.before.record-at.ensures ∙ ap record_in e))
 
-pub read-answer-spec : {M : Type 1} → statement M
-read-answer-spec =
+pub read_answer_spec : {M : Type 1} → statement M
+read_answer_spec =
     tie.close
     (tie.spec returns (λ c κs. search needs) returns-2 (λ c κs. (search needs, sym c.before.all_digits.ensures ∙ not-false _ c.if2.false))
     (λ c κs. search needs) returns-3)

@@ -9,5 +9,5 @@ returns c = rw (eq-eqb _ _ c.if1.true)
 returns-2 : tie.Need-returns-2
 returns-2 c = rw (ne_eqb _ _ c.before.if1.false)
 
-pub ends-at-spec : {M : Type 1} → statement M
-ends-at-spec = tie.close (tie.spec returns (λ c. search needs) returns-2)
+pub ends_at_spec : {M : Type 1} → statement M
+ends_at_spec = tie.close (tie.spec returns (λ c. search needs) returns-2)

@@ -19,7 +19,7 @@ returns-3 c =
     let a = t.before.before.before.args in
     c.all_digits.ensures ∙ by_digits a.text.now a.at (omega arith) (omega arith) (sym t.ends_at.ensures ∙ not-false _ c.before.if2.false)
 
-pub is-digits-spec : {M : Type 1} → statement M
-is-digits-spec =
+pub is_digits_spec : {M : Type 1} → statement M
+is_digits_spec =
     tie.close
     (tie.spec (λ c. search needs) returns (λ c. search needs) (λ c κs. search needs) returns-2 (λ c κs. search needs) returns-3)

@@ -2,8 +2,8 @@
 use mathlib.Core.Path.{sym, ◌∙◌}
 use Prim.Native.Nat.{ℕ, ◌+◌, ◌*◌, ◌≤◌}
 use borrow.Author.Rules.{rules}
-use Rattle.request.specs.Operation.{ops, listed, operationOf}
-use Rattle.request.proofs.RequestLaws.{wrong-mode, at_key, alu-at, otherKeys, none_of, no_other}
+use Rattle.request.specs.Operation.{ops, listed, operation_of}
+use Rattle.request.proofs.RequestLaws.{wrong_mode_lem, at_key, alu_at_lem, other_keys, none_of, no_other}
 use Rattle.request.proofs.decode.decode.Statement.{statement}
 use Rattle.request.proofs.decode.decode.Tie as tie
 
@@ -20,19 +20,19 @@ few c = c.before.before.before.if1.false
 alu : tie.Need-returns-2
 alu c =
     let at = c.before.before.before in
-    alu-at at.before.before.args.op at.before.before.args.mode at.before.if1.false (sym c.before.alu.given.1 ∙ at.alu-at.ensures)
+    alu_at_lem at.before.before.args.op at.before.before.args.mode at.before.if1.false (sym c.before.alu.given.1 ∙ at.alu_at_lem.ensures)
 
 none : tie.Need-returns-24
 none c =
     let at = c.before.before in
     c.refused2.ensures
-    ∙ no_other (op at) (mode at) (few at) (sym at.enum_told.given.1 ∙ at.before.before.alu-at.ensures) (none_of (Unit {0}) (op at * 8 + mode at) otherKeys c.before.match2.rest)
+    ∙ no_other (op at) (mode at) (few at) (sym at.enum_told.given.1 ∙ at.before.before.alu_at_lem.ensures) (none_of (Unit {0}) (op at * 8 + mode at) other_keys c.before.match2.rest)
 
-pub decode-spec : {M : Type 1} → statement M
-unfolding operationOf listed ops
-decode-spec =
+pub decode_spec : {M : Type 1} → statement M
+unfolding operation_of listed ops
+decode_spec =
     tie.close
-    (tie.spec (λ c κs. search rules) (λ c. c.refused.ensures ∙ wrong-mode c.before.before.args.op c.before.before.args.mode c.before.if1.true) (λ c. search rules) (λ c. search rules) (λ c κs. search rules) (λ c. search rules) alu
+    (tie.spec (λ c κs. search rules) (λ c. c.refused.ensures ∙ wrong_mode_lem c.before.before.args.op c.before.before.args.mode c.before.if1.true) (λ c. search rules) (λ c. search rules) (λ c κs. search rules) (λ c. search rules) alu
     (λ c. search rules) (λ c κs. search rules) (λ c κs. search rules) (λ c κs. search rules) (λ c κs. search rules) (λ c κs. search rules) (λ c κs. search rules) (λ c κs. search rules) (λ c κs. search rules) (λ c κs. search rules) (λ c κs. search rules) (λ c κs. search rules) (λ c κs. search rules) (λ c κs. search rules) (λ c κs. search rules) (λ c κs. search rules) (λ c κs. search rules) (λ c κs. search rules)
     (λ c. c.multiply.ensures ∙ at_key (op c.before.before) (mode c.before.before) (few c.before.before) c.before.match2.keys1)
     (λ c. c.multiply2.ensures ∙ at_key (op c.before.before) (mode c.before.before) (few c.before.before) c.before.match2.keys2)

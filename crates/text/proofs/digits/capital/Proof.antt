@@ -6,5 +6,5 @@ use Rattle.text.proofs.digits.capital.Tie as tie
 returns : tie.Need-returns
 returns c = c.before.requires.0.rule c.before.args.number (search rules)
 
-pub capital-spec : {M : Type 1} → statement M
-capital-spec = tie.close (tie.spec (λ c. search rules) returns)
+pub capital_spec : {M : Type 1} → statement M
+capital_spec = tie.close (tie.spec (λ c. search rules) returns)

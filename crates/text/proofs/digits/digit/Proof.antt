@@ -6,5 +6,5 @@ use Rattle.text.proofs.digits.digit.Tie as tie
 returns : tie.Need-returns
 returns c = c.before.requires.rule c.before.args.byte (search rules)
 
-pub digit-spec : {M : Type 1} → statement M
-digit-spec = tie.close (tie.spec (λ c. search rules) returns)
+pub digit_spec : {M : Type 1} → statement M
+digit_spec = tie.close (tie.spec (λ c. search rules) returns)

@@ -4,8 +4,8 @@ use Prim.Native.Nat.{ℕ, ◌+◌, ◌≤◌, ◌<◌}
 use native.Mathlib.Omega.{arith}
 use lib.ListN.{get_or}
 use borrow.Author.Rules.{rules}
-use Rattle.text.specs.Plain.{isDigit}
-use Rattle.text.proofs.{DigitsAt.digit-in, DigitsAt.field-two, Plain.is_below, hex.two_digits.Statement.statement}
+use Rattle.text.specs.Plain.{is_digit}
+use Rattle.text.proofs.{DigitsAt.digit_in, DigitsAt.field_two, Plain.is_below, hex.two_digits.Statement.statement}
 use Rattle.text.proofs.hex.two_digits.Tie as tie
 
 module _ (c : tie.Start) where
@@ -16,13 +16,13 @@ module _ (c : tie.Start) where
   byte i = get_or c.args.text.now i 0
 
   -- each of the two is a digit
-  digit : (i : ℕ) → at ≤ i → i < at + 2 → isDigit (byte i) ≡ true
-  digit i low high = digit-in c.args.text.now at 2 i c.requires.1 low high (omega arith)
+  digit : (i : ℕ) → at ≤ i → i < at + 2 → is_digit (byte i) ≡ true
+  digit i low high = digit_in c.args.text.now at 2 i c.requires.1 low high (omega arith)
 
-  first : isDigit (byte at) ≡ true
+  first : is_digit (byte at) ≡ true
   first = digit at (omega arith) (omega arith)
 
-  second : isDigit (byte (at + 1)) ≡ true
+  second : is_digit (byte (at + 1)) ≡ true
   second = digit (at + 1) (omega arith) (omega arith)
 
 -- so that its number is below 16
@@ -39,9 +39,9 @@ add-result c =
 returns : tie.Need-returns
 returns c =
     let a = c.before.before.before.before.before.args in
-    omega (arith, c.before.before.value.ensures, c.value2.ensures, field-two a.text.now a.at (omega arith))
+    omega (arith, c.before.before.value.ensures, c.value2.ensures, field_two a.text.now a.at (omega arith))
 
-pub two-digits-spec : {M : Type 1} → statement M
-two-digits-spec =
+pub two_digits_spec : {M : Type 1} → statement M
+two_digits_spec =
     tie.close
     (tie.spec (λ c. search rules) (λ c κs. first c.before.before) (λ c. omega (arith, first_below c)) (λ c. search rules) (λ c. search rules) (λ c κs. second c.before.before.before.before) add-result returns)

@@ -13,5 +13,5 @@ returns-2 c = simp (le-ltb _ _ c.before.if1.false, c.if2.true)
 returns-3 : tie.Need-returns-3
 returns-3 c = simp (le-ltb _ _ c.before.if1.false, c.if2.false)
 
-pub next-start-spec : {M : Type 1} → statement M
-next-start-spec = tie.close (tie.spec (λ c. search needs) returns returns-2 returns-3)
+pub next_start_spec : {M : Type 1} → statement M
+next_start_spec = tie.close (tie.spec (λ c. search needs) returns returns-2 returns-3)

@@ -10,8 +10,8 @@ returns c =
     let from = c.before.before in
     stored from.args.first from.args.second c.eight-capitals.result from.ranges.first.fits from.ranges.second.fits c.eight-capitals.ensures from.args.out.now from.args.at
 
-pub put-eight-spec : {M : Type 1} → statement M
-put-eight-spec =
+pub put_eight_spec : {M : Type 1} → statement M
+put_eight_spec =
     tie.close
     (tie.spec (λ c κs. search rules)
     (λ c. search rules) (λ c. search rules)

@@ -4,7 +4,7 @@ use Prim.Native.Nat.{ℕ, ◌≤◌, ◌/◌, ◌%◌}
 use native.Mathlib.Omega.{arith}
 use lib.{ListN.length, ListN.set, ListN.drop, ListN.length-set, Seq.sets, Seq.sets-eq}
 use borrow.Author.Rules.{rules}
-use Rattle.text.specs.{Digits.capitalOf, Written.four, Written.written}
+use Rattle.text.specs.{Digits.capital_of, Written.four, Written.written}
 use Rattle.text.proofs.written.write.Statement.{statement}
 use Rattle.text.proofs.written.write.Tie as tie
 
@@ -32,7 +32,7 @@ returns c =
     let g2 = c.before.before in
     let g1 = g2.before.before.before.before in
     let a = g1.before.before.before.before.before in
-    stored capitalOf a.args.status a.args.flags a.args.steps a.args.r a.args.s a.args.out.now a.requires.1
+    stored capital_of a.args.status a.args.flags a.args.steps a.args.r a.args.s a.args.out.now a.requires.1
     g1.before.before.before.capital.ensures
     g1.before.before.capital2.ensures
     g1.put-eight.ensures

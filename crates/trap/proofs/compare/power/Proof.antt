@@ -9,5 +9,5 @@ use Rattle.trap.proofs.compare.power.Tie as tie
 returns : tie.Need-returns
 returns c = shl_exact 1 c.args.bits 64 (lit< tt) (omega arith) ∙ omega arith
 
-pub power-spec : {M : Type 1} → statement M
-power-spec = tie.close (tie.spec (λ c. search rules) returns)
+pub power_spec : {M : Type 1} → statement M
+power_spec = tie.close (tie.spec (λ c. search rules) returns)

@@ -10,5 +10,5 @@ returns c =
     let a = c.before.before.before.args in
     λ i. leb a.self.x a.x-most && leb a.self.y a.y-most && c.is-flags.ensures i
 
-pub fits-spec : {M : Type 1} → statement M
-fits-spec = tie.close (tie.spec (λ c κs. search rules) returns)
+pub fits_spec : {M : Type 1} → statement M
+fits_spec = tie.close (tie.spec (λ c κs. search rules) returns)
