@@ -1,5 +1,7 @@
 // The buffer of a program that reads block by block: what one block leaves over is moved to the front,
 // and the next is read behind it.
+#![tactic(auto)]
+
 ghost use Rattle.std.specs.Prelude.{◌≡◌, ◌++◌, ◌-◌, ◌≤◌, length, take, drop};
 
 // Moves the bytes from `from` to `to` to the front.

@@ -1,6 +1,8 @@
 // CORD, the microcode's divide of magnitudes, after cpu_808x/muldiv.rs of MartyPC. Each round shifts one bit of
 // the dividend out on the left and one bit of the quotient in on the right. The chip collects the quotient's
 // complement and inverts it at the end; here the quotient itself is collected.
+#![tactic(auto)]
+
 ghost use Rattle.std.specs.Prelude.{◌≡◌, ◌+◌, ◌*◌, ◌/◌, ◌<◌};
 ghost use Rattle.cord.specs.Round.{cord_round};
 ghost use Rattle.cord.specs.Cord.{cord};

@@ -1,6 +1,8 @@
 // CORX, the microcode's multiply: each round takes the lowest bit off the multiplier. The chip adds to the upper
 // half and shifts both halves right. Here the product stays in place and the addend shifts left, so no round
 // waits for the sum of the round before. The law `chip_walks` says that both ways give the same halves and steps.
+#![tactic(auto)]
+
 ghost use Rattle.std.specs.Prelude.{◌≡◌, ◌<◌};
 ghost use Rattle.corx.specs.Corx.{corx};
 ghost use Rattle.corx.specs.InPlace.{add_round};

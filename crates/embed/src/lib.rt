@@ -3,6 +3,8 @@
 // over many lines, packed decimal strings added and subtracted, and answer lines read back. Nothing is required
 // of a caller but that each pointer leads to as many bytes as it says, and that what is written overlaps nothing
 // else that is lent.
+#![tactic(auto)]
+
 ghost use Rattle.std.specs.Prelude.{◌≡◌, ◌/◌, length};
 ghost use Rattle.line.specs.One.{status_in, answered};
 ghost use Rattle.line.specs.Run.{done, run_of};

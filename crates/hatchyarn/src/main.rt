@@ -1,5 +1,7 @@
 // hatchyarn: reads request lines and writes their answers, in constant memory whatever the size of
 // the input. Everything that matters is in the libraries; this file moves bytes.
+#![tactic(auto)]
+
 mod block;
 mod files;
 mod help;

@@ -1,5 +1,7 @@
 // PREIDIV, which makes dividend and divisor positive, and POSTIDIV, which gives quotient and remainder
 // their signs or refuses a quotient that is too large for them, after cpu_808x/muldiv.rs of MartyPC.
+#![tactic(auto)]
+
 ghost use Rattle.std.specs.Prelude.{◌≡◌, ◌<◌};
 ghost use Rattle.negate.specs.Views.{pair8, pair16, negate8, negate16};
 ghost use Rattle.idiv.specs.Idiv.{pre_idiv, post_idiv, with_sign};

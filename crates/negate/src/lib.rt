@@ -1,6 +1,8 @@
 // NEGATE, the microcode routine that signed multiply and divide share, after cpu_808x/muldiv.rs of
 // MartyPC. A pair of halves is negated unless the routine is entered past that; then the second
 // operand is made positive. The steps so far go in and come out.
+#![tactic(auto)]
+
 ghost use Rattle.std.specs.Prelude.{◌≡◌, ◌<◌};
 ghost use Rattle.negate.specs.Negate.{pair, second, cor_negate};
 ghost use Rattle.negate.specs.Views.{pair8, pair16, negate8, negate16};

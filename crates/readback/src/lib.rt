@@ -1,4 +1,6 @@
 // Answer lines read back: one line, and a reader that goes through many.
+#![tactic(auto)]
+
 pub mod judge;
 pub mod one;
 pub mod reader;

@@ -1,5 +1,7 @@
 // Replays a recorded list and says how many of its answers differ. Each line of standard input is a
 // record: the answer's 18 digits, a space, and the request as it was sent, up to the line feed.
+#![tactic(auto)]
+
 ghost use Rattle.std.specs.Prelude.{◌≡◌, ◌≤◌, length, take, drop, if◌then◌else◌};
 ghost use Rattle.replay.specs.Record.{right};
 ghost use Rattle.replay.specs.Counted.{count_on};

@@ -3,6 +3,8 @@
 // and so is a divide that the chip refuses. The comparison of `trap` refuses before CORD walks.
 // CORD is called here, and not `div8` and `div16`. With a second caller the compiler would no longer inline
 // those two into `ask`, and every divide would take longer.
+#![tactic(auto)]
+
 ghost use Rattle.std.specs.Prelude.{◌≡◌, ◌⊎◌, [], ◌∷◌, ◌+◌, ◌^◌, ◌≤◌, ◌<◌};
 ghost use Rattle.numbers.specs.Numbers.{magnitude};
 ghost use Rattle.cord.specs.Cord.{cord};

@@ -1,5 +1,7 @@
 // Whether a divide given as numbers, which no caller has checked, would trap. A mode or an operand that a
 // divide does not have is told by its status.
+#![tactic(auto)]
+
 pub mod compare;
 
 ghost use Rattle.std.specs.Prelude.{◌≡◌};

@@ -1,0 +1,8 @@
+-- `alu::step::left16` meets its contract, by the law of the step at the width 16. Assumes nothing.
+use native.Mathlib.Omega.{arith}
+use borrow.Author.Rules.{rules}
+use Rattle.alu.proofs.{StepLaws.left_is}
+use Rattle.alu.proofs.step.left16.Goals as goal
+
+pub returns : goal.returns
+returns c = left_is 16 c.args.value c.args.enters (omega arith) (omega arith)
