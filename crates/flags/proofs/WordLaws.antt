@@ -1,7 +1,7 @@
 -- The flags word taken apart and put together: each undoes the other within 08D5, and together never leaves it.
 -- Assumes nothing.
 use mathlib.Core.{Path.◌≡◌, Path.refl, Path.sym, Path.ap, Path.◌∙◌, Bool.true}
-use Prim.Native.Nat.{ℕ, zero, ◌+◌, ◌*◌, ◌/◌, ◌%◌, ◌^◌, ◌≤◌, ◌<◌}
+use Prim.Native.Nat.{ℕ, ◌+◌, ◌*◌, ◌/◌, ◌%◌, ◌^◌, ◌≤◌, ◌<◌}
 use native.Mathlib.{Nat.mod-lt, Nat.mod-eq_of_lt, Omega.arith}
 use lib.{Bits.bit_and, Bits.bit_or, Bits.or_shifted, Bits.and_mask, Bits.and_shr, Bits.and_mod, Bits.and_zero_r, Bits.and_le_r, Dec.eqb, Dec.lit<}
 use borrow.Author.Tests.{eq-eqb}

@@ -1,7 +1,6 @@
 -- `alu::addition::alu_adc16` meets its contract, by the law of addition at the width 16. Assumes nothing.
 use mathlib.Core.Path.{refl}
 use native.Mathlib.Omega.{arith}
-use borrow.Author.Rules.{rules}
 use Rattle.numbers.proofs.BitLaws.{bit_le}
 use Rattle.alu.proofs.{SumLaws.adc_is}
 use Rattle.alu.proofs.addition.alu_adc16.Goals as goal

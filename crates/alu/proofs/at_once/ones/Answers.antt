@@ -1,6 +1,5 @@
 -- `alu::at_once::ones` meets its contract: 2 to the number of bits, less 1. Assumes nothing.
 use native.Mathlib.Omega.{arith}
-use borrow.Author.Rules.{rules}
 use lib.Pow.{pow_pos}
 use Rattle.alu.proofs.{AtOnceLaws.power}
 use Rattle.alu.proofs.at_once.ones.Goals as goal

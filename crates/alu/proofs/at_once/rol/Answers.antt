@@ -1,6 +1,5 @@
 -- `alu::at_once::rol` meets its contract: the number beside itself, read from the other end. Assumes nothing.
 use native.Mathlib.{Omega.arith, Nat.mod-lt}
-use borrow.Author.Rules.{rules}
 use Rattle.alu.proofs.{AtOnceLaws.rol-at_once}
 use Rattle.alu.proofs.at_once.rol.Goals as goal
 

@@ -1,6 +1,5 @@
 -- `alu::at_once::ror` meets its contract: the number beside itself, from the rest of the count on. Assumes nothing.
 use native.Mathlib.{Omega.arith, Nat.mod-lt}
-use borrow.Author.Rules.{rules}
 use Rattle.alu.proofs.{AtOnceLaws.ror-at_once}
 use Rattle.alu.proofs.at_once.ror.Goals as goal
 

@@ -1,6 +1,5 @@
 -- `alu::at_once::sar` meets its contract: the signs above the number, moved by no more than the bits. Assumes nothing.
 use native.Mathlib.{Nat.min-le_right, Omega.arith}
-use borrow.Author.Rules.{rules}
 use Rattle.alu.proofs.{AtOnceLaws.signs_lt, AtOnceLaws.signs_fit, AtOnceLaws.sar-at_once}
 use Rattle.alu.proofs.at_once.sar.Goals as goal
 

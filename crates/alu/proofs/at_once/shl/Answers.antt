@@ -1,7 +1,6 @@
 -- `alu::at_once::shl` meets its contract: a shift by no more than the bits, cut to them, is all steps. Assumes nothing.
 use native.Mathlib.Omega.{arith}
-use borrow.Author.Rules.{rules}
-use Rattle.alu.proofs.{AtOnceLaws.shl-at_once, at_once.shl.Statement.statement}
+use Rattle.alu.proofs.{AtOnceLaws.shl-at_once}
 use Rattle.alu.proofs.at_once.shl.Goals as goal
 
 pub returns : goal.returns

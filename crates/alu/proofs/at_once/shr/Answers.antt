@@ -1,7 +1,6 @@
 -- `alu::at_once::shr` meets its contract: a shift by no more than the bits is all steps. Assumes nothing.
 use native.Mathlib.Omega.{arith}
-use borrow.Author.Rules.{rules}
-use Rattle.alu.proofs.{AtOnceLaws.shr-at_once, at_once.shr.Statement.statement}
+use Rattle.alu.proofs.{AtOnceLaws.shr-at_once}
 use Rattle.alu.proofs.at_once.shr.Goals as goal
 
 pub returns : goal.returns

@@ -1,6 +1,5 @@
 -- `alu::at_once::sign` meets its contract, by the law of the top digit. Assumes nothing.
 use native.Mathlib.Omega.{arith}
-use borrow.Author.Rules.{rules}
 use Rattle.alu.proofs.{StepLaws.top_digit}
 use Rattle.alu.proofs.at_once.sign.Goals as goal
 

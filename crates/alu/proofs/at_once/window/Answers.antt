@@ -1,6 +1,5 @@
 -- `alu::at_once::window` meets its contract: two halves put together, moved and cut. Assumes nothing.
 use native.Mathlib.Omega.{arith}
-use borrow.Author.Rules.{rules}
 use Rattle.alu.proofs.{AtOnceLaws.window_is}
 use Rattle.alu.proofs.at_once.window.Goals as goal
 

@@ -1,6 +1,5 @@
 -- `alu::last::left_o8` meets its contract, by the law of O leftward at the width 8. Assumes nothing.
 use native.Mathlib.Omega.{arith}
-use borrow.Author.Rules.{rules}
 use Rattle.alu.proofs.{StepLaws.left_o_lem}
 use Rattle.alu.proofs.last.left_o8.Goals as goal
 

@@ -1,6 +1,5 @@
 -- `alu::last::right_o16` meets its contract, by the law of O rightward at the width 16. Assumes nothing.
 use native.Mathlib.Omega.{arith}
-use borrow.Author.Rules.{rules}
 use Rattle.alu.proofs.{StepLaws.right_o_lem}
 use Rattle.alu.proofs.last.right_o16.Goals as goal
 

@@ -1,6 +1,5 @@
 -- `alu::last::right_o8` meets its contract, by the law of O rightward at the width 8. Assumes nothing.
 use native.Mathlib.Omega.{arith}
-use borrow.Author.Rules.{rules}
 use Rattle.alu.proofs.{StepLaws.right_o_lem}
 use Rattle.alu.proofs.last.right_o8.Goals as goal
 

@@ -1,7 +1,6 @@
 -- `alu::rotate::alu_rcl8` meets its contract: RCL is ROL of 9 bits, C above the others. Assumes nothing.
 use mathlib.Core.Path.{ap, ◌∙◌}
 use native.Mathlib.Omega.{arith}
-use borrow.Author.Rules.{rules}
 use Rattle.numbers.proofs.BitLaws.{bit_le}
 use Rattle.alu.specs.Shift.{left_o, leftward}
 use Rattle.alu.proofs.{WithC.rcl-done}

@@ -1,7 +1,6 @@
 -- `alu::rotate::alu_rcr16` meets its contract: RCR is ROR of 17 bits, C above the others. Assumes nothing.
 use mathlib.Core.Path.{ap, ◌∙◌}
 use native.Mathlib.Omega.{arith}
-use borrow.Author.Rules.{rules}
 use Rattle.numbers.proofs.BitLaws.{bit_le}
 use Rattle.alu.specs.Shift.{right_o, rightward}
 use Rattle.alu.proofs.{WithC.rcr-done}

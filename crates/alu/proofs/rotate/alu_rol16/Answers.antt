@@ -1,7 +1,6 @@
 -- `alu::rotate::alu_rol16` meets its contract: the bit that last came round stands below the others. Assumes nothing.
 use mathlib.Core.{Bool.false, Path.ap, Path.◌∙◌}
 use native.Mathlib.Omega.{arith}
-use borrow.Author.Rules.{rules}
 use Rattle.alu.specs.{Shift.left_o, Shift.leftward, Step.Rol, Step.before}
 use Rattle.alu.proofs.{StepLaws.steps-keep, WithC.rol-done}
 use Rattle.alu.proofs.rotate.alu_rol16.Goals as goal

@@ -1,7 +1,6 @@
 -- `alu::rotate::alu_ror16` meets its contract: the bit that last came round stands above the others. Assumes nothing.
 use mathlib.Core.{Bool.false, Path.ap, Path.◌∙◌}
 use native.Mathlib.Omega.{arith}
-use borrow.Author.Rules.{rules}
 use Rattle.alu.specs.{Shift.right_o, Shift.rightward, Step.Ror, Step.before}
 use Rattle.alu.proofs.{StepLaws.steps-keep, WithC.ror-done}
 use Rattle.alu.proofs.rotate.alu_ror16.Goals as goal

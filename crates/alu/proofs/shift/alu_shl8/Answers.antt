@@ -1,7 +1,6 @@
 -- `alu::shift::alu_shl8` meets its contract: SHL of 9 bits has C above the result. Assumes nothing.
 use mathlib.Core.Path.{ap, ◌∙◌}
 use native.Mathlib.Omega.{arith}
-use borrow.Author.Rules.{rules}
 use Rattle.alu.specs.Shift.{left_o, leftward}
 use Rattle.alu.proofs.{WithC.shl-done}
 use Rattle.alu.proofs.shift.alu_shl8.Goals as goal

@@ -1,5 +1,4 @@
 -- `alu::shift::alu_shl_af16` meets its contract: SHL, and A by the mask of bit 4. Assumes nothing.
-use borrow.Author.Rules.{rules}
 use Rattle.alu.proofs.{StepLaws.with_a_lem}
 use Rattle.alu.proofs.shift.alu_shl_af16.Goals as goal
 

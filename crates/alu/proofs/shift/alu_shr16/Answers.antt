@@ -2,7 +2,6 @@
 use mathlib.Core.Bool.{false}
 use Prim.Native.Nat.{◌*◌}
 use native.Mathlib.Omega.{arith}
-use borrow.Author.Rules.{rules}
 use Rattle.alu.specs.{Shift.downward, Step.Shr, Step.before}
 use Rattle.alu.proofs.{StepLaws.steps-keep, WithC.shr-done}
 use Rattle.alu.proofs.shift.alu_shr16.Goals as goal

@@ -1,6 +1,5 @@
 -- `alu::step::left8` meets its contract, by the law of the step at the width 8. Assumes nothing.
 use native.Mathlib.Omega.{arith}
-use borrow.Author.Rules.{rules}
 use Rattle.alu.proofs.{StepLaws.left_is}
 use Rattle.alu.proofs.step.left8.Goals as goal
 

@@ -1,7 +1,6 @@
 -- `alu::subtraction::alu_sbb16` meets its contract, by the law of subtraction at the width 16. Assumes nothing.
 use mathlib.Core.Path.{refl}
 use native.Mathlib.Omega.{arith}
-use borrow.Author.Rules.{rules}
 use Rattle.numbers.proofs.BitLaws.{bit_le}
 use Rattle.alu.proofs.{SumLaws.sbb_is}
 use Rattle.alu.proofs.subtraction.alu_sbb16.Goals as goal

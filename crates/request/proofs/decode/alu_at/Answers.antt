@@ -109,4 +109,4 @@ returns-in-97 c = at_alu c.in-97.is
 
 pub returns-in_default : goal.returns-in_default
 unfolding alu_at operation_of listed ops
-returns-in_default c = no_alu c.args.key (none_of (Unit {0}) c.args.key alu_keys c.match.rest)
+returns-in_default c = no_alu c.args.key (none_of (Unit {0}) c.args.key alu_keys c.in_default.in_default-own.rest)

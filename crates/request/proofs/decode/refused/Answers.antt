@@ -28,4 +28,4 @@ returns-in_default-2 c = refuses Unlisted 0x12 0x06 refl c.args.op (omega arith)
 
 pub returns-in_default-3 : goal.returns-in_default-3
 unfolding operation_of listed ops
-returns-in_default-3 c = refuses_above c.args.op c.if-op-lt29.false
+returns-in_default-3 c = refuses_above c.args.op (omega arith)

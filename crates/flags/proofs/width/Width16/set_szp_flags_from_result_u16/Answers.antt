@@ -3,7 +3,6 @@
 use mathlib.Core.Path.{ap, ◌∙◌}
 use native.Mathlib.Omega.{arith}
 use lib.Bits.{and_mask, mask_lt}
-use borrow.Author.Rules.{rules}
 use Rattle.flags.specs.Parity.{even_ones}
 use Rattle.flags.proofs.{SzpLaws.szp_by, SzpLaws.even_low}
 use Rattle.flags.proofs.width.Width16.set_szp_flags_from_result_u16.Goals as goal

@@ -1,6 +1,5 @@
 -- `flags::width::Width8::set_szp_flags_from_result_u8` meets its contract: S by the top bit's mask, P by the table. Assumes nothing.
 use native.Mathlib.Omega.{arith}
-use borrow.Author.Rules.{rules}
 use Rattle.flags.proofs.{SzpLaws.szp_by}
 use Rattle.flags.proofs.width.Width8.set_szp_flags_from_result_u8.Goals as goal
 

@@ -2,7 +2,6 @@
 use mathlib.Core.Path.{ap, ◌∙◌}
 use Prim.Native.Nat.{ℕ}
 use lib.Dec.{eqb}
-use borrow.Author.Rules.{rules}
 use Rattle.flags.specs.Word.{word_of, is_flags}
 use Rattle.flags.proofs.word.Flags.is_flags.Goals as goal
 
