@@ -1,59 +1,59 @@
 -- Each public function of `answer` has a tight contract. Assumes nothing.
 use mathlib.Core.Path.{refl}
-use Rattle.answer.proofs.answer
-use Rattle.answer.proofs.ask
-use Rattle.answer.proofs.chart
+use Rattle.answer.specs.contracts.answer
+use Rattle.answer.specs.contracts.ask
+use Rattle.answer.specs.contracts.chart
 use Rattle.tight.specs.Tight.{Tight}
 use Rattle.tight.proofs.Law.{plainly, same}
 
 module _ {M : Type 1} where
-  pub answer-plain : Tight M answer.plain.signature answer.plain.clauses
+  pub answer-plain : Tight M answer.plain.signature (λ 𝓤. answer.plain.clauses)
   answer-plain c g r s = plainly c.𝓤 (λ e d. (same e d, refl))
 
-  pub answer-limited : Tight M answer.limited.signature answer.limited.clauses
+  pub answer-limited : Tight M answer.limited.signature (λ 𝓤. answer.limited.clauses)
   answer-limited c g r s = plainly c.𝓤 (λ e d. (same e d, refl))
 
-  pub answer_of-c8 : Tight M answer.of_c8.signature answer.of_c8.clauses
+  pub answer_of-c8 : Tight M answer.of_c8.signature (λ 𝓤. answer.of_c8.clauses)
   answer_of-c8 c g r s = plainly c.𝓤 (λ e d. (same e d, refl))
 
-  pub answer_of-co8 : Tight M answer.of_co8.signature answer.of_co8.clauses
+  pub answer_of-co8 : Tight M answer.of_co8.signature (λ 𝓤. answer.of_co8.clauses)
   answer_of-co8 c g r s = plainly c.𝓤 (λ e d. (same e d, refl))
 
-  pub answer_of-coa8 : Tight M answer.of_coa8.signature answer.of_coa8.clauses
+  pub answer_of-coa8 : Tight M answer.of_coa8.signature (λ 𝓤. answer.of_coa8.clauses)
   answer_of-coa8 c g r s = plainly c.𝓤 (λ e d. (same e d, refl))
 
-  pub answer_of-c16 : Tight M answer.of_c16.signature answer.of_c16.clauses
+  pub answer_of-c16 : Tight M answer.of_c16.signature (λ 𝓤. answer.of_c16.clauses)
   answer_of-c16 c g r s = plainly c.𝓤 (λ e d. (same e d, refl))
 
-  pub answer_of-co16 : Tight M answer.of_co16.signature answer.of_co16.clauses
+  pub answer_of-co16 : Tight M answer.of_co16.signature (λ 𝓤. answer.of_co16.clauses)
   answer_of-co16 c g r s = plainly c.𝓤 (λ e d. (same e d, refl))
 
-  pub answer_of-coa16 : Tight M answer.of_coa16.signature answer.of_coa16.clauses
+  pub answer_of-coa16 : Tight M answer.of_coa16.signature (λ 𝓤. answer.of_coa16.clauses)
   answer_of-coa16 c g r s = plainly c.𝓤 (λ e d. (same e d, refl))
 
-  pub answer_of-product8 : Tight M answer.of_product8.signature answer.of_product8.clauses
+  pub answer_of-product8 : Tight M answer.of_product8.signature (λ 𝓤. answer.of_product8.clauses)
   answer_of-product8 c g r s = plainly c.𝓤 (λ e d. (same e d, refl))
 
-  pub answer_of-product16 : Tight M answer.of_product16.signature answer.of_product16.clauses
+  pub answer_of-product16 : Tight M answer.of_product16.signature (λ 𝓤. answer.of_product16.clauses)
   answer_of-product16 c g r s = plainly c.𝓤 (λ e d. (same e d, refl))
 
-  pub answer_of-divided8 : Tight M answer.of_divided8.signature answer.of_divided8.clauses
+  pub answer_of-divided8 : Tight M answer.of_divided8.signature (λ 𝓤. answer.of_divided8.clauses)
   answer_of-divided8 c g r s = plainly c.𝓤 (λ e d. (same e d, refl))
 
-  pub answer_of-divided16 : Tight M answer.of_divided16.signature answer.of_divided16.clauses
+  pub answer_of-divided16 : Tight M answer.of_divided16.signature (λ 𝓤. answer.of_divided16.clauses)
   answer_of-divided16 c g r s = plainly c.𝓤 (λ e d. (same e d, refl))
 
-  pub answer_of-adjusted : Tight M answer.of_adjusted.signature answer.of_adjusted.clauses
+  pub answer_of-adjusted : Tight M answer.of_adjusted.signature (λ 𝓤. answer.of_adjusted.clauses)
   answer_of-adjusted c g r s = plainly c.𝓤 (λ e d. (same e d, refl))
 
-  pub answer-zeros : Tight M answer.zeros.signature answer.zeros.clauses
+  pub answer-zeros : Tight M answer.zeros.signature (λ 𝓤. answer.zeros.clauses)
   answer-zeros c g r s = plainly c.𝓤 (λ e d. (same e d, refl))
 
-  pub chart-chart : Tight M chart.chart.signature chart.chart.clauses
+  pub chart-chart : Tight M chart.chart.signature (λ 𝓤. chart.chart.clauses)
   chart-chart c g r s = plainly c.𝓤 (λ e d. (same e d, refl))
 
-  pub ask-ask_into : Tight M ask.ask_into.signature ask.ask_into.clauses
+  pub ask-ask_into : Tight M ask.ask_into.signature (λ 𝓤. ask.ask_into.clauses)
   ask-ask_into c g r s = plainly c.𝓤 (λ e d. (same e.0 d.0, λ i. (tt, (tt, (tt, (tt, (tt, (tt, (same e.1 d.1 i, tt)))))))))
 
-  pub ask-ask : Tight M ask.ask.signature ask.ask.clauses
+  pub ask-ask : Tight M ask.ask.signature (λ 𝓤. ask.ask.clauses)
   ask-ask c g r s = plainly c.𝓤 (λ e d. (same e d, refl))

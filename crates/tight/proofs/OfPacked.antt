@@ -1,27 +1,27 @@
 -- Each public function of `packed` has a tight contract. Assumes nothing.
 use mathlib.Core.Path.{refl}
-use Rattle.packed.proofs.byte
-use Rattle.packed.proofs.judge
-use Rattle.packed.proofs.string
-use Rattle.packed.proofs.told
+use Rattle.packed.specs.contracts.byte
+use Rattle.packed.specs.contracts.judge
+use Rattle.packed.specs.contracts.string
+use Rattle.packed.specs.contracts.told
 use Rattle.tight.specs.Tight.{Tight}
 use Rattle.tight.proofs.Law.{plainly, same}
 
 module _ {M : Type 1} where
-  pub byte-work_byte : Tight M byte.work_byte.signature byte.work_byte.clauses
+  pub byte-work_byte : Tight M byte.work_byte.signature (λ 𝓤. byte.work_byte.clauses)
   byte-work_byte c g r s = plainly c.𝓤 (λ e d. (same e d, refl))
 
-  pub judge-judge : Tight M judge.judge.signature judge.judge.clauses
+  pub judge-judge : Tight M judge.judge.signature (λ 𝓤. judge.judge.clauses)
   judge-judge c g r s = plainly c.𝓤 (λ e d. (same e d, refl))
 
-  pub judge-refusal_status : Tight M judge.refusal_status.signature judge.refusal_status.clauses
+  pub judge-refusal_status : Tight M judge.refusal_status.signature (λ 𝓤. judge.refusal_status.clauses)
   judge-refusal_status c g r s = plainly c.𝓤 (λ e d. (same e d, refl))
 
-  pub string-add : Tight M string.add.signature string.add.clauses
+  pub string-add : Tight M string.add.signature (λ 𝓤. string.add.clauses)
   string-add c g r s = plainly c.𝓤 (λ e d. let t = same e d in (λ i. (t i).outcome, λ i. (tt, (tt, (tt, ((t i).buffer, tt))))))
 
-  pub string-subtract : Tight M string.subtract.signature string.subtract.clauses
+  pub string-subtract : Tight M string.subtract.signature (λ 𝓤. string.subtract.clauses)
   string-subtract c g r s = plainly c.𝓤 (λ e d. let t = same e d in (λ i. (t i).outcome, λ i. (tt, (tt, (tt, ((t i).buffer, tt))))))
 
-  pub told-tell : Tight M told.tell.signature told.tell.clauses
+  pub told-tell : Tight M told.tell.signature (λ 𝓤. told.tell.clauses)
   told-tell c g r s = plainly c.𝓤 (λ e d. (same e.0 d.0, λ i. (tt, (same e.1 d.1 i, tt))))

@@ -1,33 +1,33 @@
 -- Each public function of `readback` has a tight contract. Assumes nothing.
 use mathlib.Core.Path.{refl}
-use Rattle.readback.proofs.judge
-use Rattle.readback.proofs.one
-use Rattle.readback.proofs.reader
-use Rattle.readback.proofs.told
+use Rattle.readback.specs.contracts.judge
+use Rattle.readback.specs.contracts.one
+use Rattle.readback.specs.contracts.reader
+use Rattle.readback.specs.contracts.told
 use Rattle.tight.specs.Tight.{Tight}
 use Rattle.tight.proofs.Law.{plainly, same}
 
 module _ {M : Type 1} where
-  pub judge-judge : Tight M judge.judge.signature judge.judge.clauses
+  pub judge-judge : Tight M judge.judge.signature (λ 𝓤. judge.judge.clauses)
   judge-judge c g r s = plainly c.𝓤 (λ e d. (same e d, refl))
 
-  pub judge-refusal_status : Tight M judge.refusal_status.signature judge.refusal_status.clauses
+  pub judge-refusal_status : Tight M judge.refusal_status.signature (λ 𝓤. judge.refusal_status.clauses)
   judge-refusal_status c g r s = plainly c.𝓤 (λ e d. (same e d, refl))
 
-  pub one-record_at : Tight M one.record_at.signature one.record_at.clauses
+  pub one-record_at : Tight M one.record_at.signature (λ 𝓤. one.record_at.clauses)
   one-record_at c g r s = plainly c.𝓤 (λ e d. (same e d, refl))
 
-  pub one-read_answer : Tight M one.read_answer.signature one.read_answer.clauses
+  pub one-read_answer : Tight M one.read_answer.signature (λ 𝓤. one.read_answer.clauses)
   one-read_answer c g r s = plainly c.𝓤 (λ e d. (same e d, refl))
 
-  pub reader-next_at : Tight M reader.next_at.signature reader.next_at.clauses
+  pub reader-next_at : Tight M reader.next_at.signature (λ 𝓤. reader.next_at.clauses)
   reader-next_at c g r s = plainly c.𝓤 (λ e d. (same e d, refl))
 
-  pub reader-next : Tight M reader.next.signature reader.next.clauses
+  pub reader-next : Tight M reader.next.signature (λ 𝓤. reader.next.clauses)
   reader-next c g r s = plainly c.𝓤 (λ e d. (same e.0 d.0, λ i. (record { text = same e.1 d.1 i; at = same e.2 d.2 i }, tt)))
 
-  pub told-tell : Tight M told.tell.signature told.tell.clauses
+  pub told-tell : Tight M told.tell.signature (λ 𝓤. told.tell.clauses)
   told-tell c g r s = plainly c.𝓤 (λ e d. (same e.0 d.0, λ i. (tt, (same e.1 d.1 i, tt))))
 
-  pub told-tell_next : Tight M told.tell_next.signature told.tell_next.clauses
+  pub told-tell_next : Tight M told.tell_next.signature (λ 𝓤. told.tell_next.clauses)
   told-tell_next c g r s = plainly c.𝓤 (λ e d. let t = same e d in (λ i. (t i).status, λ i. (tt, ((t i).place, ((t i).numbers, ((t i).start, tt))))))

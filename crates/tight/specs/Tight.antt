@@ -22,7 +22,7 @@ ends S = record { signature = S; kept = all yes S.params }
 
 -- a function's clauses: one pair, `requires` and `ensures`, for each call
 abbrev pub Contract : Type 1 → Signature → Type 2
-Contract M S = (𝓤 : Ura M) → (𝓛 : Logic 𝓤) → (Memory → SProp 𝓤) → (Routine → Fun 𝓤) → Clauses 𝓤 (ends S)
+Contract M S = (𝓤 : Ura M) (𝓛 : Logic 𝓤) → (Memory → SProp 𝓤) → (Routine → Fun 𝓤) → Clauses 𝓤 (ends S)
 
 -- a call: a model of the logic, in which the clauses are read; the lifetimes of what is lent; and the arguments
 pub record Call (M : Type 1) (S : Signature) : Type 2 where
@@ -43,7 +43,7 @@ pub record Answer {M : Type 1} {S : Signature} (c : Call M S) : Type 0 where
 module _ (M : Type 1) (S : Signature) (f : Contract M S) where
   -- the contract at a call
   abbrev at : (c : Call M S) → ClausesAt c.𝓤 (ends S) c.κs
-  at c = f c.𝓤 c c.mem c.run c.κs c.args
+  at c = f c.𝓤 c.𝓛 c.mem c.run c.κs c.args
 
   -- what its `ensures` says of an answer. g is what a contract may bind for both clauses; the contracts here bind nothing
   abbrev allows : (c : Call M S) → (at c).ghost → Answer c → SProp c.𝓤
