@@ -72,6 +72,10 @@ module _ (b m start k : ℕ) (s : AddRound) {r : AddRound} (er : r ≡ add_round
 pub few_steps : (b m start k : ℕ) (s : AddRound) → Walked b m start k s → k ≤ 16 → start < 1000 → s.steps < 1200
 few_steps b m start k s w hk hs = omega (arith, w.paid, ones-le k w.q w.used)
 
+-- and so are those after a round more, with its jump
+pub few_after : (b m start k : ℕ) (s : AddRound) {r : AddRound} → r ≡ add_round s → Walked b m start k s → k ≤ 15 → start < 1000 → r.steps + 1 < 1200
+few_after b m start k s {r = r} er w hk hs = few_steps b m start (k + 1) (jumped r) (next b m start k s er w) (omega arith) hs
+
 -- what a round asks for
 pub ready : (b m start k : ℕ) (s : AddRound) → Walked b m start k s → b < 2 ^ 16 → k ≤ 15 → start < 1000 → (s.product < 2 ^ 31) × (s.addend < 2 ^ 31) × (s.steps < 2000)
 ready b m start k s w hb hk hs =

@@ -1,11 +1,8 @@
 -- `corx::corx16` meets its contract: the laws of the walk at the width 16. The invariant: k rounds are made, and k and the counter are 15 together.
 -- Assumes nothing.
-use mathlib.Core.Path.{◌≡◌, refl}
-use Prim.Native.Nat.{ℕ, ◌+◌, ◌<◌}
-use native.Mathlib.Omega.{arith}
-use borrow.Author.Rules.{rules}
-use Rattle.numbers.proofs.BitLaws.{bit_le}
-use Rattle.corx.proofs.CorxLaws.{multiplier, Walked, jumped, begins, next, few_steps, ready, two_halves, ends}
+use mathlib.Core.Path.{◌≡◌}
+use Prim.Native.Nat.{ℕ, ◌+◌}
+use Rattle.corx.proofs.CorxLaws.{multiplier, Walked}
 use Rattle.corx.proofs.corx16.Given as goal
 
 abbrev pub invariant-loop-internal_counter : goal.invariant-loop-internal_counter

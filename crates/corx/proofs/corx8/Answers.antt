@@ -1,11 +1,10 @@
 -- `corx::corx8` meets its contract: the laws of the walk at the width 8. The invariant: k rounds are made, and k and the counter are 7 together.
 -- Assumes nothing.
-use mathlib.Core.Path.{◌≡◌, refl}
-use Prim.Native.Nat.{ℕ, ◌+◌, ◌<◌}
+use mathlib.Core.Path.{refl}
+use Prim.Native.Nat.{◌+◌}
 use native.Mathlib.Omega.{arith}
-use borrow.Author.Rules.{rules}
 use Rattle.numbers.proofs.BitLaws.{bit_le}
-use Rattle.corx.proofs.CorxLaws.{multiplier, Walked, jumped, begins, next, few_steps, ready, two_halves, ends}
+use Rattle.corx.proofs.CorxLaws.{begins, next, few_after, ready, two_halves, ends}
 use Rattle.corx.proofs.corx8.Goals as goal
 
 pub loop-internal_counter-init : goal.loop-internal_counter-init
@@ -14,26 +13,14 @@ loop-internal_counter-init c = (0, begins _ _ _, refl)
 pub corx_round-at-requires : goal.corx_round-at-requires
 corx_round-at-requires c = omega (arith, ready _ _ _ _ _ c.loop-internal_counter.invariant.1 (omega arith) (omega arith) (omega arith))
 
--- the walk goes on from a round, with its jump
-gone-on : (c : goal.After-corx_round-at)
-    → let a = c.args in Walked a.tmpb (multiplier 8 a.tmpc a.carry) a.steps (c.loop-internal_counter.invariant.0 + 1) (jumped c.corx_round-at.result)
-gone-on c = next _ _ _ _ _ c.corx_round-at.ensures c.loop-internal_counter.invariant.1
-
-few_after : (c : goal.After-corx_round-at) → c.corx_round-at.result.steps + 1 < 1200
-few_after c = few_steps _ _ _ _ _ (gone-on c) (omega arith) (omega arith)
-
 pub overflow_cast-result : goal.overflow_cast-result
-overflow_cast-result c =
-    let walk = c.before.before in
-    omega (arith, two_halves 8 _ _ walk.args.carry _ _ _ walk.corx_round-at.ensures walk.loop-internal_counter.invariant.1 (omega arith) (omega arith) (omega arith))
+overflow_cast-result c = omega (arith, two_halves 8 _ _ c.args.carry _ _ _ c.corx_round-at.ensures c.loop-internal_counter.invariant.1 (omega arith) (omega arith) (omega arith))
 
 pub loop-internal_counter-preserved : goal.loop-internal_counter-preserved
-loop-internal_counter-preserved c = let walk = c.before.before in (walk.loop-internal_counter.invariant.0 + 1, gone-on walk, omega arith)
+loop-internal_counter-preserved c = (c.loop-internal_counter.invariant.0 + 1, next _ _ _ _ _ c.corx_round-at.ensures c.loop-internal_counter.invariant.1, omega arith)
 
 pub returns : goal.returns
-returns c =
-    let walk = c.before.before.before.before in
-    ends 8 _ _ walk.args.carry _ _ _ walk.corx_round-at.ensures walk.loop-internal_counter.invariant.1 (omega arith) (omega arith)
+returns c = ends 8 _ _ c.args.carry _ _ _ c.corx_round-at.ensures c.loop-internal_counter.invariant.1 (omega arith) (omega arith)
 
 pub overflow_mul-at : goal.overflow_mul-at
 overflow_mul-at c = omega (arith, bit_le c.args.carry)
@@ -42,7 +29,7 @@ pub overflow_add-at : goal.overflow_add-at
 overflow_add-at c = omega (arith, bit_le c.args.carry)
 
 pub overflow_add-result : goal.overflow_add-result
-overflow_add-result c = omega (arith, few_after c.before.before.before.before)
+overflow_add-result c = omega (arith, few_after _ _ _ _ _ c.corx_round-at.ensures c.loop-internal_counter.invariant.1 (omega arith) (omega arith))
 
 pub overflow_add-at-in-loop-internal_counter : goal.overflow_add-at-in-loop-internal_counter
-overflow_add-at-in-loop-internal_counter c = omega (arith, few_after c.before.before)
+overflow_add-at-in-loop-internal_counter c = omega (arith, few_after _ _ _ _ _ c.corx_round-at.ensures c.loop-internal_counter.invariant.1 (omega arith) (omega arith))
