@@ -31,6 +31,10 @@ module _ {n a b c : ℕ} {at : Round} {left : ℕ} (t : Turning n a b c at left)
       let r = ready n b (a * 2 ^ n + c) t.rounds at (omega (arith, t.passed)) t.walked in
       (r.0, omega (arith, r.1, t.count, t.narrow))
 
+  -- the halves and the last compare fit, and there are few ones
+  pub few_at : (at.tmpa < 2 ^ n) × (at.compared < 2 ^ n) × (at.no_borrow ≤ 16)
+  few_at = (omega (arith, may_turn, t.divisor), t.within, omega (arith, may_turn))
+
   pub turns : {r : Round} → r ≡ cord_round n b at → {less : ℕ} → suc less ≡ left → Turning n a b c r less
   turns {r} e el =
       record {

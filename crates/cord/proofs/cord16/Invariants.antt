@@ -1,11 +1,6 @@
 -- `cord::cord16` meets its contract: the laws of the loop at the width 16. Assumes nothing.
-use mathlib.Core.Path.{◌≡◌, ap}
-use Prim.Native.Nat.{ℕ, ◌+◌, ◌*◌, ◌/◌, ◌%◌, ◌≤◌, ◌<◌}
-use native.Mathlib.Omega.{arith}
-use lib.Bits.{bit_and, and_mask}
-use Rattle.numbers.proofs.Masks.{mask_top_clear}
 use Rattle.cord.specs.Views.{round16}
-use Rattle.cord.proofs.{CordLaws.refuses, Turning.Turning, Turning.starts, Turning.may_turn, Turning.turns, Turning.ends}
+use Rattle.cord.proofs.{Turning.Turning}
 use Rattle.cord.proofs.cord16.Given as goal
 
 abbrev pub invariant-loop-internal_counter : goal.invariant-loop-internal_counter

@@ -1,6 +1,5 @@
 -- `cord::cord_round16` meets its contract, road by road, at the width 16. Assumes nothing.
 use native.Mathlib.Omega.{arith}
-use borrow.Author.Rules.{rules}
 use Rattle.cord.proofs.{CordLaws.by_first, CordLaws.by_second, CordLaws.by_third}
 use Rattle.cord.proofs.cord_round16.Goals as goal
 
