@@ -2,12 +2,8 @@
 use mathlib.Core.Path.{refl}
 use Rattle.text.specs.Digits.{capital_of}
 use Rattle.numbers.proofs.Tables.{held}
-use Rattle.text.proofs.digits.capital_table.Statement.{statement}
-use Rattle.text.proofs.digits.capital_table.Tie as tie
+use Rattle.text.proofs.digits.capital_table.Goals as goal
 
-returns : tie.Need-returns
+pub returns : goal.returns
 unfolding capital_of
 returns c = held tt refl
-
-pub capital_table_spec : {M : Type 1} → statement M
-capital_table_spec = tie.close (tie.spec returns)
