@@ -14,9 +14,9 @@ use Rattle.divide.specs.{Divide.accepts, Divide.quotient_of, Manual.negative, Ma
 use Rattle.divide.proofs.DivLaws.{below as quotient-below}
 
 -- every number is its sign and its magnitude
-sign_of : (z : ℤ) → z ≡ sign_of (negative z) (nat_abs z)
-sign_of (pos k) = refl
-sign_of (negsuc k) = refl
+sign_of_lem : (z : ℤ) → z ≡ sign_of (negative z) (nat_abs z)
+sign_of_lem (pos k) = refl
+sign_of_lem (negsuc k) = refl
 
 zeros : (s t : Bool) → sign_of s 0 ≡ sign_of t 0
 zeros true true = refl
@@ -26,8 +26,8 @@ zeros false false = refl
 
 -- a remainder has the dividend's sign, 0 having either
 with_sign_lem : (z r : ℤ) → (nat_abs r ≡ 0) ⊎ (negative r ≡ negative z) → r ≡ sign_of (negative z) (nat_abs r)
-with_sign_lem z r (inl e) = sign_of r ∙ ap (sign_of (negative r)) e ∙ zeros (negative r) (negative z) ∙ ap (sign_of (negative z)) (sym e)
-with_sign_lem z r (inr e) = sign_of r ∙ ap (λ (s : Bool). sign_of s (nat_abs r)) e
+with_sign_lem z r (inl e) = sign_of_lem r ∙ ap (sign_of (negative r)) e ∙ zeros (negative r) (negative z) ∙ ap (sign_of (negative z)) (sym e)
+with_sign_lem z r (inr e) = sign_of_lem r ∙ ap (λ (s : Bool). sign_of s (nat_abs r)) e
 
 -- a sign and a magnitude as a difference
 abbrev part : Bool → ℕ → ℕ
@@ -84,14 +84,14 @@ module _ (z w q r : ℤ) (h : Division z w q r) where
       ≡ part (xor (negative q) (negative w)) (nat_abs q * nat_abs w) + part (negative z) (nat_abs r) + part (not (negative z)) (nat_abs z)
   sides =
       let product : q *ℤ w ≡ sign_of (xor (negative q) (negative w)) (nat_abs q * nat_abs w) =
-      ap₂ ◌*ℤ◌ (sign_of q) (sign_of w) ∙ mul-sign (negative q) (negative w) (nat_abs q) (nat_abs w) in
+      ap₂ ◌*ℤ◌ (sign_of_lem q) (sign_of_lem w) ∙ mul-sign (negative q) (negative w) (nat_abs q) (nat_abs w) in
       let left = diff_add (diff_sign (xor (negative q) (negative w)) (nat_abs q * nat_abs w)) (diff_sign (negative z) (nat_abs r)) in
       let whole : sign_of (xor (negative q) (negative w)) (nat_abs q * nat_abs w) +ℤ sign_of (negative z) (nat_abs r) ≡ z =
       ap₂ ◌+ℤ◌ (sym product) (sym (with_sign_lem z r h.sign)) ∙ h.whole in
       let one : part (not (xor (negative q) (negative w))) (nat_abs q * nat_abs w) + part (not (negative z)) (nat_abs r) + down z
       ≡ part (xor (negative q) (negative w)) (nat_abs q * nat_abs w) + part (negative z) (nat_abs r) + up z = diff_out (moved whole left) in
       let other : part (not (negative z)) (nat_abs z) + down z ≡ part (negative z) (nat_abs z) + up z =
-      diff_out (moved (sym (sign_of z)) (diff_sign (negative z) (nat_abs z))) in
+      diff_out (moved (sym (sign_of_lem z)) (diff_sign (negative z) (nat_abs z))) in
       omega arith
 
   -- what the three conditions say of the magnitudes, and of the quotient's sign
@@ -111,11 +111,11 @@ module _ (z w q r : ℤ) (h : Division z w q r) where
 
   -- there is one quotient: that cut towards zero
   pub quotient_determined : q ≡ quot_z z w
-  quotient_determined = sign_of q ∙ by magnitudes.0 ∙ sym quotient
+  quotient_determined = sign_of_lem q ∙ by magnitudes.0 ∙ sym quotient
     where
       quotient : quot_z z w ≡ sign_of (xor (negative z) (negative w)) (nat_abs q)
       quotient =
-          ap₂ quot_z (sign_of z) (sign_of w)
+          ap₂ quot_z (sign_of_lem z) (sign_of_lem w)
           ∙ quot_sign (negative z) (negative w) (nat_abs z) (nat_abs w) (omega (arith, h.smaller))
           ∙ ap (sign_of (xor (negative z) (negative w))) quotient_magnitude
 
@@ -128,7 +128,7 @@ module _ (z w q r : ℤ) (h : Division z w q r) where
   remainder_determined =
       with_sign_lem z r h.sign
       ∙ ap (sign_of (negative z)) (sym (ap (λ (x : ℕ). x % nat_abs w) (sym magnitudes.1) ∙ digits_mod (nat_abs q) h.smaller))
-      ∙ sym (ap₂ rem_z (sign_of z) (sign_of w) ∙ rem_sign (negative z) (negative w) (nat_abs z) (nat_abs w))
+      ∙ sym (ap₂ rem_z (sign_of_lem z) (sign_of_lem w) ∙ rem_sign (negative z) (negative w) (nat_abs z) (nat_abs w))
 
 -- ---- and they are the manual's: the three conditions hold of them
 
@@ -153,20 +153,20 @@ pub division_holds : (z w : ℤ) → 0 < nat_abs w → Division z w (quot_z z w)
 division_holds z w pos-w = record { whole = whole; smaller = smaller; sign = sign }
   where
     quotient : quot_z z w ≡ sign_of (xor (negative z) (negative w)) (nat_abs z / nat_abs w)
-    quotient = ap₂ quot_z (sign_of z) (sign_of w) ∙ quot_sign (negative z) (negative w) (nat_abs z) (nat_abs w) pos-w
+    quotient = ap₂ quot_z (sign_of_lem z) (sign_of_lem w) ∙ quot_sign (negative z) (negative w) (nat_abs z) (nat_abs w) pos-w
 
     remainder : rem_z z w ≡ sign_of (negative z) (nat_abs z % nat_abs w)
-    remainder = ap₂ rem_z (sign_of z) (sign_of w) ∙ rem_sign (negative z) (negative w) (nat_abs z) (nat_abs w)
+    remainder = ap₂ rem_z (sign_of_lem z) (sign_of_lem w) ∙ rem_sign (negative z) (negative w) (nat_abs z) (nat_abs w)
 
     whole : quot_z z w *ℤ w +ℤ rem_z z w ≡ z
     whole =
         ap₂ ◌+ℤ◌
-        (ap₂ ◌*ℤ◌ quotient (sign_of w) ∙ mul-sign (xor (negative z) (negative w)) (negative w) (nat_abs z / nat_abs w) (nat_abs w)
+        (ap₂ ◌*ℤ◌ quotient (sign_of_lem w) ∙ mul-sign (xor (negative z) (negative w)) (negative w) (nat_abs z / nat_abs w) (nat_abs w)
         ∙ ap (λ (s : Bool). sign_of s (nat_abs z / nat_abs w * nat_abs w)) (xor_twice (negative z) (negative w)))
         remainder
         ∙ add-sign (negative z) (nat_abs z / nat_abs w * nat_abs w) (nat_abs z % nat_abs w)
         ∙ ap (sign_of (negative z)) (div-add-mod' (nat_abs z) (nat_abs w))
-        ∙ sym (sign_of z)
+        ∙ sym (sign_of_lem z)
 
     smaller : nat_abs (rem_z z w) < nat_abs w
     smaller = subst⁻¹ (λ (k : ℕ). k < nat_abs w) (ap nat_abs remainder ∙ abs_sign (negative z) (nat_abs z % nat_abs w)) (mod-lt (nat_abs z) pos-w)

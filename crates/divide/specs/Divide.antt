@@ -1,6 +1,6 @@
 -- Divide: 2n bits by n bits. Quotient, remainder and refusals are the manual's; REP, flags and steps are the chart's.
 -- Assumes nothing.
-use Rattle.std.specs.Prelude.{Bool, true, false, not, cond, ◌&&◌, ℕ, ◌+◌, ◌-◌, ◌*◌, ◌/◌, ◌^◌, leb, ltb, eqb, ℤ, neg_ℤ, nat_abs}
+use Rattle.std.specs.Prelude.{Bool, true, false, not, cond, ◌&&◌, ℕ, ◌+◌, ◌-◌, ◌/◌, ◌^◌, leb, ltb, eqb, ℤ, neg_ℤ, nat_abs}
 use Rattle.std.specs.Int.Signed.{quot_z, rem_z}
 use Rattle.numbers.specs.Numbers.{between, top, top_set, valued, magnitude, wrapped}
 use Rattle.flags.specs.Word.{set_co}
