@@ -14,7 +14,7 @@ use flags::word::Flags;
 use multiply::mul::{Product8, Product16};
 use request::raw::Request;
 
-#[derive(Drop)]
+#[derive(Clone, Copy)]
 pub struct Answer {
     pub status: u8,
     pub flags: u16,

@@ -71,8 +71,7 @@ pub fn daa(ax: u16, flags: Flags, table: &[u8; 256]) -> Adjusted
     let al = adjust::al(ax);
     let low = adjust::low_digit_adjusts(al, flags.aux_carry);
     let high = high_digit_adjusts(al, flags.aux_carry, flags.carry);
-    let overflow = daa_overflow(al, flags.carry);
-    let named = flags.with_coa(high, overflow, low);
+    let named = flags.with_coa(high, daa_overflow(al, flags.carry), low);
     let sum = al as u16 + distance(low, high) as u16;
     adjusted(adjust::ah(ax), (sum % 0x100) as u8, named, table)
 }
@@ -84,8 +83,7 @@ pub fn das(ax: u16, flags: Flags, table: &[u8; 256]) -> Adjusted
     let al = adjust::al(ax);
     let low = adjust::low_digit_adjusts(al, flags.aux_carry);
     let high = high_digit_adjusts(al, flags.aux_carry, flags.carry);
-    let overflow = das_overflow(al, flags.aux_carry, flags.carry);
-    let named = flags.with_coa(high, overflow, low);
+    let named = flags.with_coa(high, das_overflow(al, flags.aux_carry, flags.carry), low);
     // One byte's range is lent, so that the difference is not below 0.
     let difference = 0x100 + al as u16 - distance(low, high) as u16;
     adjusted(adjust::ah(ax), (difference % 0x100) as u8, named, table)

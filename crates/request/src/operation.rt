@@ -1,19 +1,19 @@
 // The operations. Each holds its own width, and multiply and divide their sign rule and REP.
-#[derive(Drop)]
+#[derive(Clone, Copy)]
 pub enum Width {
     Byte,
     Word,
 }
 
 // The mode of a multiply or divide. `rep` says that a REP prefix stood before it.
-#[derive(Drop)]
+#[derive(Clone, Copy)]
 pub struct Mode {
     pub width: Width,
     pub signed: bool,
     pub rep: bool,
 }
 
-#[derive(Drop)]
+#[derive(Clone, Copy)]
 pub enum Alu {
     Add,
     Adc,
@@ -30,7 +30,7 @@ pub enum Alu {
     ShlAf,
 }
 
-#[derive(Drop)]
+#[derive(Clone, Copy)]
 pub enum Decimal {
     Aaa,
     Aas,
@@ -39,7 +39,7 @@ pub enum Decimal {
     Das,
 }
 
-#[derive(Drop)]
+#[derive(Clone, Copy)]
 pub enum Operation {
     Alu(Alu, Width),
     Multiply(Mode),

@@ -6,7 +6,7 @@ use crate::operation::Operation;
 use flags::word::Flags;
 
 // Nothing in it has been checked.
-#[derive(Drop)]
+#[derive(Clone, Copy)]
 pub struct Raw {
     pub op: u8,
     pub mode: u8,
@@ -16,7 +16,7 @@ pub struct Raw {
 }
 
 // The operation is known. X, Y and the flags are checked against its limits where its work is done.
-#[derive(Drop)]
+#[derive(Clone, Copy)]
 pub struct Request {
     pub operation: Operation,
     pub flags: u16,

@@ -9,5 +9,5 @@ unfolding daa_of
 returns c =
     let f = c.args.flags in
     decimal_moved (λ (l : ℕ). daa_o l f.carry) (λ (l d : ℕ). (l + d) % 256) f c.al-al.ensures
-    c.low_digit_adjusts-low.ensures c.high_digit_adjusts-high.ensures c.daa_overflow-overflow.ensures c.with_coa-named.ensures
+    c.low_digit_adjusts-low.ensures c.high_digit_adjusts-high.ensures c.daa_overflow.ensures c.with_coa-named.ensures
     c.distance.ensures c.ah.ensures c.adjusted.ensures

@@ -9,5 +9,5 @@ unfolding das_of
 returns c =
     let f = c.args.flags in
     decimal_moved (λ (l : ℕ). das_o l f.aux_carry f.carry) (λ (l d : ℕ). (256 + l - d) % 256) f c.al-al.ensures
-    c.low_digit_adjusts-low.ensures c.high_digit_adjusts-high.ensures c.das_overflow-overflow.ensures c.with_coa-named.ensures
+    c.low_digit_adjusts-low.ensures c.high_digit_adjusts-high.ensures c.das_overflow.ensures c.with_coa-named.ensures
     c.distance.ensures c.ah.ensures c.adjusted.ensures

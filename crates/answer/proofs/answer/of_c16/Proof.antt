@@ -1,7 +1,0 @@
--- `answer::answer::of_c16` meets its contract: a plain answer with C set over the flags of the request. Assumes nothing.
-use borrow.Author.Rules.{rules}
-use Rattle.answer.proofs.answer.of_c16.Statement.{statement}
-use Rattle.answer.proofs.answer.of_c16.Tie as tie
-
-pub of_c16_spec : {M : Type 1} → statement M
-of_c16_spec = tie.close (tie.spec (λ c κs. search rules) (λ c κs. search rules) (λ c κs. search rules) (λ c κs. search rules) (λ c. cc))
