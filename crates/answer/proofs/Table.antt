@@ -10,7 +10,7 @@ use Rattle.flags.specs.{Word.flags_of, declared.word.Flags.Flags}
 use Rattle.flags.proofs.WordLaws.{is_masked}
 use Rattle.divide.specs.Divide.{DivideOutcome, accepted, refused, applies, results_of, divide}
 use Rattle.divide.specs.declared.div.Refusal.TheVariants.{ZeroDivisor, TooWide, SignRange}
-use Rattle.divide.proofs.Refusals.{by_reason}
+use Rattle.divide.proofs.Refusals.{by_reason_lem}
 use Rattle.request.specs.{Operation.operation_of, Limits.x_most, Limits.y_most, Judge.request_of, Judge.judged_by, Judge.judged, Limits.in_limits, declared.operation.Width.Width}
 use Rattle.request.specs.{declared.operation.Width.TheVariants.Byte, declared.operation.Width.TheVariants.Word, declared.operation.Alu.Alu}
 use Rattle.request.specs.declared.operation.Operation.{Operation}
@@ -69,7 +69,7 @@ by_reason zero wide range = cond zero 6 (cond wide 8 (cond range 9 0))
 divide_status : (n : ℕ) (s rep : Bool) (d b : ℕ) (f : Flags) → 0 < n
     → (of_divided (divide n s rep d b f)).status ≡ by_reason (applies ZeroDivisor n s d b) (applies TooWide n s d b) (applies SignRange n s d b)
 divide_status n s rep d b f hn =
-    ap (λ (o : DivideOutcome). (of_outcome o (divide n s rep d b f).flags (divide n s rep d b f).steps).status) (by_reason n s d b hn f rep)
+    ap (λ (o : DivideOutcome). (of_outcome o (divide n s rep d b f).flags (divide n s rep d b f).steps).status) (by_reason_lem n s d b hn f rep)
     ∙ by (applies ZeroDivisor n s d b) (applies TooWide n s d b) (applies SignRange n s d b)
   where
     by : (z w r : Bool)

@@ -1,5 +1,5 @@
 -- The table of statuses from 3 on, row by row in its order, over the numbers of a raw request. Assumes nothing.
-use Rattle.std.specs.Prelude.{Bool, true, not, cond, ◌&&◌, ◌||◌, List, [], ◌∷◌, ℕ, ◌+◌, ◌^◌, leb, ltb, eqb}
+use Rattle.std.specs.Prelude.{Bool, not, cond, ◌&&◌, ◌||◌, List, [], ◌∷◌, ℕ, ◌+◌, ◌^◌, leb, ltb, eqb}
 use Rattle.std.specs.Int.Bits.{bit_and}
 use Rattle.numbers.specs.Numbers.{between, is_set}
 use Rattle.divide.specs.Divide.{applies}

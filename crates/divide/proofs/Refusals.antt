@@ -133,10 +133,10 @@ module _ (n : ℕ) (s : Bool) (d b : ℕ) (hn : 0 < n) where
         sym (refused_is n s d b rep f no (one_alone n s d b why (refusal_of n s d b) e (told-applies no)) refl refl)
 
     -- the outcome, reason by reason in their order
-    pub by_reason : (divide n s rep d b f).outcome
+    pub by_reason_lem : (divide n s rep d b f).outcome
         ≡ cond (applies ZeroDivisor n s d b) (refused ZeroDivisor)
         (cond (applies TooWide n s d b) (refused TooWide) (cond (applies SignRange n s d b) (refused SignRange) (accepted (results_of n s rep d b))))
-    by_reason =
+    by_reason_lem =
         by (applies ZeroDivisor n s d b) (applies TooWide n s d b) (applies SignRange n s d b) (accepts n s d b) refl refl refl refl (three_cover n s d b hn)
       where
         outcome : (why : Refusal) → applies why n s d b ≡ true → (divide n s rep d b f).outcome ≡ refused why

@@ -1,9 +1,8 @@
 -- `answer::answer::limited` meets its contract: what is handed in, or 5. Assumes nothing.
-use borrow.Author.Rules.{rules}
 use Rattle.answer.proofs.answer.limited.Goals as goal
 
 pub returns-then-fits : goal.returns-then-fits
-returns-then-fits c = rw (← c.fits2.ensures, c.if-fits.true)
+returns-then-fits c = rw (← c.fits.ensures, c.if-fits.true)
 
 pub returns : goal.returns
-returns c = rw (← c.fits2.ensures, c.if-fits.false) c.zeros.ensures
+returns c = rw (← c.fits.ensures, c.if-fits.false) c.zeros.ensures

@@ -1,5 +1,4 @@
 -- `answer::answer::of_c16` meets its contract: a plain answer with C set over the flags of the request. Assumes nothing.
-use borrow.Author.Rules.{rules}
 use Rattle.answer.proofs.answer.of_c16.Goals as goal
 
 pub returns : goal.returns

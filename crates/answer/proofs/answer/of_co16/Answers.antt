@@ -1,5 +1,4 @@
 -- `answer::answer::of_co16` meets its contract: a plain answer with C and O set over the flags of the request. Assumes nothing.
-use borrow.Author.Rules.{rules}
 use Rattle.answer.proofs.answer.of_co16.Goals as goal
 
 pub returns : goal.returns

@@ -1,6 +1,5 @@
 -- `answer::answer::of_divided8` meets its contract: each arm is the clause of its variant. Assumes nothing.
 use mathlib.Core.Path.{◌∙◌}
-use borrow.Author.Rules.{rules}
 use Rattle.divide.specs.Views.{outcome8}
 use Rattle.answer.proofs.{AnswerLaws.by_outcome, AnswerLaws.refused_with}
 use Rattle.answer.proofs.answer.of_divided8.Goals as goal
@@ -10,5 +9,4 @@ returns-in-Accepted c = c.whole.ensures ∙ by_outcome outcome8 _ _ c.in-Accepte
 
 pub returns-in-Refused : goal.returns-in-Refused
 returns-in-Refused c =
-    let told = c.outcome-in-Refused-1.given in
-    refused_with told.0.0 c.refusal_status.ensures _ _ c.whole-in-Refused.ensures ∙ by_outcome outcome8 _ _ told.1
+    refused_with c.in-Refused.why c.refusal_status.ensures _ _ c.whole-in-Refused.ensures ∙ by_outcome outcome8 _ _ c.in-Refused.is

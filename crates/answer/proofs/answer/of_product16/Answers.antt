@@ -1,6 +1,5 @@
 -- `answer::answer::of_product16` meets its contract: the halves come back from the product that they make up. Assumes nothing.
 use native.Mathlib.Omega.{arith}
-use borrow.Author.Rules.{rules}
 use Rattle.answer.proofs.{AnswerLaws.halves_back}
 use Rattle.answer.proofs.answer.of_product16.Goals as goal
 

@@ -1,5 +1,4 @@
 -- `answer::answer::whole` meets its contract: the flags are put together. Assumes nothing.
-use borrow.Author.Rules.{rules}
 use Rattle.answer.proofs.answer.whole.Goals as goal
 
 pub returns : goal.returns

@@ -1,6 +1,5 @@
 -- `answer::ask::answer_raw` meets its contract: the name, and then the chart. Assumes nothing.
 use Rattle.answer.proofs.{AnswerLaws.asked_as}
-use borrow.Author.Rules.{rules}
 use Rattle.answer.proofs.ask.answer_raw.Goals as goal
 
 pub returns-in-Operation : goal.returns-in-Operation

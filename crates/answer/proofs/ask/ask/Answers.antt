@@ -1,6 +1,5 @@
 -- `answer::ask::ask` meets its contract: the parts are those of the answer. Assumes nothing.
 use lib.ListN.{get_or}
-use borrow.Author.Rules.{rules}
 use Rattle.answer.proofs.ask.ask.Goals as goal
 
 pub returns : goal.returns

@@ -1,7 +1,6 @@
 -- `answer::ask::ask_into` meets its contract: the parts of the answer. Assumes nothing.
 use mathlib.Core.Path.{ap}
 use Rattle.answer.specs.{Asked.parts, declared.answer.Answer.Answer}
-use borrow.Author.Rules.{rules}
 use Rattle.answer.proofs.ask.ask_into.Goals as goal
 
 pub returns : goal.returns

@@ -1,6 +1,5 @@
 -- `answer::chart::adjusted` meets its contract: each arm is the clause of its adjust, with its limits. Assumes nothing.
 use Rattle.answer.proofs.{AnswerLaws.by_adjust}
-use borrow.Author.Rules.{rules}
 use Rattle.answer.proofs.chart.adjusted.Goals as goal
 
 pub returns-in-Aaa : goal.returns-in-Aaa

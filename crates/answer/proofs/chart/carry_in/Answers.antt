@@ -1,7 +1,6 @@
 -- `answer::chart::carry_in` meets its contract: C of the flags taken apart. Assumes nothing.
 use mathlib.Core.Path.{ap}
 use Rattle.flags.specs.declared.word.Flags.{Flags}
-use borrow.Author.Rules.{rules}
 use Rattle.answer.proofs.chart.carry_in.Goals as goal
 
 pub returns : goal.returns

@@ -2,7 +2,6 @@
 use mathlib.Core.Path.{ap, ◌∙◌}
 use Rattle.request.specs.declared.operation.Operation.TheVariants.{Alu as OfAlu}
 use Rattle.answer.proofs.{AnswerLaws.told_as}
-use borrow.Author.Rules.{rules}
 use Rattle.answer.proofs.chart.chart.Goals as goal
 
 pub returns-in-Byte : goal.returns-in-Byte

@@ -1,5 +1,4 @@
 -- `answer::chart::in_ax` meets its contract: R is AX, within the limits. Assumes nothing.
-use borrow.Author.Rules.{rules}
 use Rattle.answer.proofs.chart.in_ax.Goals as goal
 
 pub returns : goal.returns
