@@ -1,6 +1,6 @@
 // The register record, and what an operation over it comes to.
 
-#[derive(Drop)]
+#[derive(Clone, Copy)]
 pub struct Registers {
     pub ax: u16,
     pub dx: u16,
