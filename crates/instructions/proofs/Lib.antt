@@ -1,3 +1,1 @@
 pub mod NamedLaws
-mod Handed
-mod Thin
