@@ -6,4 +6,3 @@ pub mod AgainLaws
 pub mod PortLaws
 pub mod WholeLaws
 pub mod RunLaws
-mod Thin
