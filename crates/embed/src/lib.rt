@@ -1,4 +1,4 @@
-// What a program in another language calls: a request given as numbers, whether a divide would trap, by which
+// What a program in another language calls, by way of embed_c: a request given as numbers, whether a divide would trap, by which
 // roads the ones of its quotient came, an operation over registers that remember their steps, one line, a run
 // over many lines, packed decimal strings added and subtracted, and answer lines read back. Nothing is required
 // of a caller but that each pointer leads to as many bytes as it says, and that what is written overlaps nothing
@@ -24,15 +24,7 @@ use packed::{string, told};
 use registers::by_number;
 
 // The table of statuses from 3 on. The answer's flags, steps, R and S go in, in this order.
-#[unsafe(no_mangle)]
-pub extern "C" fn hatchyarn_ask(
-    op: u8,
-    mode: u8,
-    flags: u16,
-    x: u32,
-    y: u16,
-    answer: &mut [u16; 4],
-) -> u8
+pub fn hatchyarn_ask(op: u8, mode: u8, flags: u16, x: u32, y: u16, answer: &mut [u16; 4]) -> u8
     ensures { (result ≡ status_of op mode flags x y) × (answer.new ≡ parts_of op mode flags x y) }
 {
     let parity = parity::parity_table();
@@ -41,8 +33,7 @@ pub extern "C" fn hatchyarn_ask(
 
 // Whether the divide of mode, dividend and divisor would trap goes into `trap`, as 0 or 1; returns 0. What
 // cannot be asked returns 4 or 5, and `trap` becomes 1.
-#[unsafe(no_mangle)]
-pub extern "C" fn hatchyarn_would_trap(mode: u8, dividend: u32, divisor: u16, trap: &mut u8) -> u8
+pub fn hatchyarn_would_trap(mode: u8, dividend: u32, divisor: u16, trap: &mut u8) -> u8
     ensures { trap_told result trap.new ≡ would_trap mode dividend divisor }
 {
     trap::would_trap(mode, dividend, divisor, trap)
@@ -50,8 +41,7 @@ pub extern "C" fn hatchyarn_would_trap(mode: u8, dividend: u32, divisor: u16, tr
 
 // By which roads the ones of a divide's quotient came: how many by a bit shifted out, then how many by no
 // borrow, go into `roads`. Both are 0 unless the status returned is 0.
-#[unsafe(no_mangle)]
-pub extern "C" fn hatchyarn_roads(mode: u8, dividend: u32, divisor: u16, roads: &mut [u16; 2]) -> u8
+pub fn hatchyarn_roads(mode: u8, dividend: u32, divisor: u16, roads: &mut [u16; 2]) -> u8
     ensures { tallied result roads.new ≡ roads_told mode dividend divisor }
 {
     roads::roads(mode, dividend, divisor, roads)
@@ -60,8 +50,7 @@ pub extern "C" fn hatchyarn_roads(mode: u8, dividend: u32, divisor: u16, roads: 
 // An operation over AX, DX, the flags and the total of steps, which it changes in place; its steps go into
 // `steps`, and the status is returned. A divide that the chip refuses leaves AX and DX; its flags are stored,
 // and its steps go into the total. After 3, 4, 5 and 10 the four are as they were, and the steps are 0.
-#[unsafe(no_mangle)]
-pub extern "C" fn hatchyarn_registers(
+pub fn hatchyarn_registers(
     op: u8,
     mode: u8,
     y: u16,
@@ -77,8 +66,7 @@ pub extern "C" fn hatchyarn_registers(
 }
 
 // One line without its line feed: the whole table.
-#[unsafe(no_mangle)]
-pub extern "C" fn hatchyarn_line(line: &[u8], out: &mut [u8]) -> u8
+pub fn hatchyarn_line(line: &[u8], out: &mut [u8]) -> u8
     ensures { (result ≡ status_in (length out.old) line.now) × (out.new ≡ answered line.now out.old) }
 {
     one::answer_line(line, out)
@@ -86,13 +74,7 @@ pub extern "C" fn hatchyarn_line(line: &[u8], out: &mut [u8]) -> u8
 
 // As many lines of the text as there is room for answers; returns how many, and through `used` how many
 // bytes of the text they are.
-#[unsafe(no_mangle)]
-pub extern "C" fn hatchyarn_run(
-    text: &[u8],
-    out: &mut [u8],
-    at_end: bool,
-    used: &mut usize,
-) -> usize
+pub fn hatchyarn_run(text: &[u8], out: &mut [u8], at_end: bool, used: &mut usize) -> usize
     ensures { done out.new result used.new ≡ run_of (length out.old / 19) at_end text.now out.old }
 {
     let ran = run::run(text, out, at_end);
@@ -102,8 +84,7 @@ pub extern "C" fn hatchyarn_run(
 
 // The sum of two packed decimal strings goes into `out` and its carry into `carry_out`, as 0 or 1; returns 0.
 // A refusal, 20 to 23, writes nothing.
-#[unsafe(no_mangle)]
-pub extern "C" fn hatchyarn_packed_add(
+pub fn hatchyarn_packed_add(
     x: &[u8],
     y: &[u8],
     carry: bool,
@@ -116,8 +97,7 @@ pub extern "C" fn hatchyarn_packed_add(
 }
 
 // The same for their difference, x less y, and its borrow.
-#[unsafe(no_mangle)]
-pub extern "C" fn hatchyarn_packed_subtract(
+pub fn hatchyarn_packed_subtract(
     x: &[u8],
     y: &[u8],
     borrow: bool,
@@ -131,8 +111,7 @@ pub extern "C" fn hatchyarn_packed_subtract(
 
 // One answer line without its line feed: its five numbers go into `record`; returns 0. A refusal, 30 to 34,
 // writes nothing.
-#[unsafe(no_mangle)]
-pub extern "C" fn hatchyarn_read_answer(line: &[u8], record: &mut [u16; 5]) -> u8
+pub fn hatchyarn_read_answer(line: &[u8], record: &mut [u16; 5]) -> u8
     ensures { (result ≡ readStatus (read_back line.now)) × («record».new ≡ record_left (read_back line.now) «record».old) }
 {
     readback::told::tell(readback::one::read_answer(line), record)
@@ -140,8 +119,7 @@ pub extern "C" fn hatchyarn_read_answer(line: &[u8], record: &mut [u16; 5]) -> u
 
 // The answer line from `place` on: the same, and `start` becomes where it starts, `place` where the next
 // does. Where no byte is left returns 255 and writes nothing.
-#[unsafe(no_mangle)]
-pub extern "C" fn hatchyarn_next_answer(
+pub fn hatchyarn_next_answer(
     text: &[u8],
     place: &mut usize,
     record: &mut [u16; 5],

@@ -4,7 +4,8 @@ ghost use Rattle.std.specs.Prelude.{◌≡◌, true, not, ◌≤◌, ◌<◌, le
 ghost use Rattle.line.specs.Whole.{whole};
 ghost use Rattle.hatchyarn.specs.Kept.{Keeps};
 
-use program::{input, output};
+use program::{Program, input, output};
+use std::io::Read;
 
 // A line as long as this is too long for a request, whatever stands in it.
 const LONG: usize = 21;
@@ -17,7 +18,7 @@ pub struct Answered {
 
 // Answers the lines of the text, as many at a time as there is room for. If all is well, those of a whole
 // run are used. A failed write stops.
-fn answer_lines(text: &[u8], room: &mut [u8], at_end: bool) -> Answered
+fn answer_lines(program: &Program, text: &[u8], room: &mut [u8], at_end: bool) -> Answered
     requires { 19 ≤ length room.old }
     ensures { (result.used ≤ length text.now) × (result.ok ≡ true → result.used ≡ (whole at_end text.now).used) }
 {
@@ -29,7 +30,7 @@ fn answer_lines(text: &[u8], room: &mut [u8], at_end: bool) -> Answered
         if used == 0 {
             break;
         }
-        if !output::write(b"hatchyarn", &room[..n]) {
+        if !output::write(program, &room[..n]) {
             return Answered {
                 used: start,
                 ok: false,
@@ -52,13 +53,19 @@ pub struct Kept {
 
 // Answers the first `have` bytes and keeps what is left of them. Of a line that fills the buffer so
 // much is kept that it stays too long. If all is well, the kept bytes stand for what is left.
-fn answer_block(buffer: &mut [u8], have: usize, room: &mut [u8], at_end: bool) -> Kept
+fn answer_block(
+    program: &Program,
+    buffer: &mut [u8],
+    have: usize,
+    room: &mut [u8],
+    at_end: bool,
+) -> Kept
     requires in_bounds { (32 ≤ length buffer.old) × (have ≤ length buffer.old) }
     requires in_bounds_2 { 19 ≤ length room.old }
     ensures kept_in_bounds { (result.kept < length buffer.old) × (result.more ≡ not at_end) }
     ensures keeps { result.ok ≡ true → Keeps at_end (take have buffer.old) (take result.kept buffer.new) }
 {
-    let answered = answer_lines(&buffer[..have], room, at_end);
+    let answered = answer_lines(program, &buffer[..have], room, at_end);
     let used = answered.used;
     blocks::keep(buffer, used, have);
     let ok = answered.ok;
@@ -79,12 +86,19 @@ fn answer_block(buffer: &mut [u8], have: usize, room: &mut [u8], at_end: bool) -
 }
 
 // Reads once behind the bytes that are kept, and answers what is there.
-fn turn(fd: i32, name: &[u8], buffer: &mut [u8], kept: usize, room: &mut [u8]) -> Kept
+fn turn<R: Read>(
+    program: &Program,
+    name: &[u8],
+    input: &mut R,
+    buffer: &mut [u8],
+    kept: usize,
+    room: &mut [u8],
+) -> Kept
     requires in_bounds { (32 ≤ length buffer.old) × (kept < length buffer.old) }
     requires in_bounds_2 { 19 ≤ length room.old }
     ensures { result.kept < length buffer.old }
 {
-    let filled = input::fill(b"hatchyarn", name, fd, buffer, kept);
+    let filled = input::fill(program, name, input, buffer, kept);
     if !filled.ok {
         return Kept {
             kept: 0,
@@ -92,19 +106,25 @@ fn turn(fd: i32, name: &[u8], buffer: &mut [u8], kept: usize, room: &mut [u8]) -
             ok: false,
         };
     }
-    answer_block(buffer, filled.have, room, filled.at_end)
+    answer_block(program, buffer, filled.have, room, filled.at_end)
 }
 
 // Whether all of the input was read and answered. A proved loop has to end, and nothing says that an
 // input does; so the turns are counted down from a number that no run uses up.
-pub fn answer_input(fd: i32, name: &[u8], buffer: &mut [u8], room: &mut [u8]) -> bool
+pub fn answer_input<R: Read>(
+    program: &Program,
+    name: &[u8],
+    input: &mut R,
+    buffer: &mut [u8],
+    room: &mut [u8],
+) -> bool
     requires in_bounds { 32 ≤ length buffer.old }
     requires in_bounds_2 { 19 ≤ length room.old }
 {
     let mut kept = 0;
     let mut turns = u64::MAX;
     while turns > 0 {
-        let done = turn(fd, name, buffer, kept, room);
+        let done = turn(program, name, input, buffer, kept, room);
         if !done.ok {
             return false;
         }

@@ -3,59 +3,96 @@
 ghost use Rattle.std.specs.Prelude.{◌≤◌, length};
 
 use crate::block;
-use libc::{STDERR_FILENO, STDIN_FILENO};
-use program::input;
+use program::{Program, input, options, output};
+use std::env::FillError;
+use std::io;
+use std::rt::{Env, Files};
 
-fn answer_file(path: &[u8], buffer: &mut [u8], room: &mut [u8]) -> bool
+// Linux's ENAMETOOLONG, of a name that is longer than the system's paths.
+const NAME_TOO_LONG: i32 = 36;
+
+fn answer_standard_input(program: &Program, buffer: &mut [u8], room: &mut [u8]) -> bool
+    requires in_bounds { 32 ≤ length buffer.old }
+    requires in_bounds_2 { 19 ≤ length room.old }
+{
+    let mut input = program.input;
+    block::answer_input(program, b"standard input", &mut input, buffer, room)
+}
+
+fn answer_file(
+    files: &impl Files,
+    program: &Program,
+    path: &[u8],
+    buffer: &mut [u8],
+    room: &mut [u8],
+) -> bool
     requires in_bounds { 32 ≤ length buffer.old }
     requires in_bounds_2 { 19 ≤ length room.old }
 {
     if path.len() == 1 {
         if path[0] == b'-' {
-            return block::answer_input(STDIN_FILENO, b"standard input", buffer, room);
+            return answer_standard_input(program, buffer, room);
         }
     }
-    let fd = input::open(b"hatchyarn", path);
-    if fd < 0 {
-        return false;
+    match input::open(files, program, path) {
+        Some(mut file) => block::answer_input(program, path, &mut file, buffer, room),
+        None => false,
     }
-    let ok = block::answer_input(fd, path, buffer, room);
-    libc::close(fd);
-    ok
+}
+
+// Says that the argument whose start stands in the room is too long to name a file. It is shown cut.
+fn too_long(program: &Program, path: &[u8; 4096]) {
+    let mut shown = [0u8; 63];
+    shown[..60].copy_from_slice(&path[..60]);
+    shown[60..].copy_from_slice(b"...");
+    output::fail(program, &shown, io::Error::from_raw_os_error(NAME_TOO_LONG));
 }
 
 // Answers the file that argument i names; the one at `end` names none. A name that does not fit the room
 // of a path is shown cut.
-fn answer_argument(i: usize, end: usize, buffer: &mut [u8], room: &mut [u8]) -> bool
+fn answer_argument<R: Env + Files>(
+    rt: &R,
+    program: &Program,
+    i: usize,
+    end: usize,
+    buffer: &mut [u8],
+    room: &mut [u8],
+) -> bool
     requires in_bounds { 32 ≤ length buffer.old }
     requires in_bounds_2 { 19 ≤ length room.old }
 {
     if i == end {
         return true;
     }
-    let mut path = io::buffer();
-    let n = os::arg(i, &mut path);
-    if os::errno() != 0 {
-        io::write_all(STDERR_FILENO, b"hatchyarn: ");
-        let shown = io::count(60, &path);
-        io::write_all(STDERR_FILENO, &path[..shown]);
-        os::fail(b"...");
-        return false;
+    let mut path = [0u8; 4096];
+    match rt.arg(i, &mut path) {
+        Ok(n) => answer_file(rt, program, &path[..n], buffer, room),
+        Err(_) => {
+            too_long(program, &path);
+            false
+        }
     }
-    answer_file(&path[..n], buffer, room)
 }
 
-fn answer_arguments(count: usize, end: usize, buffer: &mut [u8], room: &mut [u8])
+fn answer_arguments<R: Env + Files>(
+    rt: &R,
+    program: &Program,
+    count: usize,
+    end: usize,
+    buffer: &mut [u8],
+    room: &mut [u8],
+) -> bool
     requires in_bounds { 32 ≤ length buffer.old }
     requires in_bounds_2 { 19 ≤ length room.old }
 {
     let mut i = 1;
     while i < count {
-        if !answer_argument(i, end, buffer, room) {
-            return;
+        if !answer_argument(rt, program, i, end, buffer, room) {
+            return false;
         }
         i += 1;
     }
+    true
 }
 
 // Whether the arguments name no file: the program's own name and the word at `end` are none.
@@ -69,13 +106,13 @@ fn none_named(count: usize, end: usize) -> bool {
     end == 1
 }
 
-pub fn answer_files(end: usize) {
-    let mut buffer = io::large_buffer();
+// Whether all inputs were read and answered.
+pub fn answer_files<R: Env + Files>(rt: &R, program: &Program, end: usize) -> bool {
+    let mut buffer = [0u8; 65536];
     let mut room = [0u8; 62244];
-    let count = os::arg_count();
+    let count = options::count(rt);
     if none_named(count, end) {
-        block::answer_input(STDIN_FILENO, b"standard input", &mut buffer, &mut room);
-        return;
+        return answer_standard_input(program, &mut buffer, &mut room);
     }
-    answer_arguments(count, end, &mut buffer, &mut room);
+    answer_arguments(rt, program, count, end, &mut buffer, &mut room)
 }

@@ -7,14 +7,31 @@ mod files;
 mod help;
 
 use program::options::Asked;
-use program::{options, output};
+use program::{Program, options, output};
+use std::process::ExitCode;
 
-fn main() {
-    match options::asked_for() {
-        Asked::Help => help::help(),
-        Asked::Version => help::version(),
-        Asked::Unknown(i) => options::unknown(b"hatchyarn", i),
-        Asked::Work(end) => files::answer_files(end),
+// The exit status is 0 if everything was read, answered and written, and else 1.
+fn main(rt: HostRuntime) -> ExitCode {
+    let program = Program {
+        name: b"hatchyarn",
+        input: rt.stdin(),
+        output: rt.stdout(),
+        errors: rt.stderr(),
+        memory: rt.alloc(),
+    };
+    let done = match options::asked_for(&rt) {
+        Asked::Help => help::help(&program),
+        Asked::Version => help::version(&program),
+        Asked::Unknown(i) => {
+            options::unknown(&rt, &program, i);
+            false
+        }
+        Asked::Work(end) => files::answer_files(&rt, &program, end),
+    };
+    let closed = output::close(&rt, &program);
+    if done && closed {
+        ExitCode::SUCCESS
+    } else {
+        ExitCode::FAILURE
     }
-    output::close(b"hatchyarn");
 }

@@ -6,7 +6,8 @@ ghost use Rattle.std.specs.Prelude.{◌≡◌, ◌≤◌, length, take, drop, if
 ghost use Rattle.replay.specs.Record.{right};
 ghost use Rattle.replay.specs.Counted.{count_on};
 
-use libc::{STDIN_FILENO, STDOUT_FILENO};
+use std::io;
+use std::io::{Read, Stdin, Stdout};
 
 // Where the request begins.
 const REQUEST: usize = 19;
@@ -20,19 +21,24 @@ fn same_answer(recorded: &[u8]) -> bool
     }
     let mut answer = [0u8; 19];
     line::one::answer_line(&recorded[REQUEST..], &mut answer);
-    check::same(&recorded[..18], &answer[..18])
+    recorded[..18] == answer[..18]
+}
+
+// Writes the bytes. Where that fails it is the count that tells.
+fn show(output: Stdout, bytes: &[u8]) {
+    let _ = Print::write_all(&output, bytes);
 }
 
 // 1 where a record differs. It is shown, so that it can be tried by hand.
-fn differs(recorded: &[u8]) -> u64
+fn differs(output: Stdout, recorded: &[u8]) -> u64
     ensures { result ≡ (if right recorded.now then 0 else 1) }
 {
     if same_answer(recorded) {
         return 0;
     }
-    io::write_all(STDOUT_FILENO, b"differs: ");
-    io::write_all(STDOUT_FILENO, recorded);
-    io::write_all(STDOUT_FILENO, b"\n");
+    show(output, b"differs: ");
+    show(output, recorded);
+    show(output, b"\n");
     1
 }
 
@@ -45,7 +51,7 @@ pub struct Replayed {
 }
 
 // Replays the records that the block holds whole, and counts on.
-fn replay(block: &[u8], before: Replayed) -> Replayed
+fn replay(output: Stdout, block: &[u8], before: Replayed) -> Replayed
     ensures { result ≡ count_on before block.now }
 {
     let mut records = before.records;
@@ -57,7 +63,7 @@ fn replay(block: &[u8], before: Replayed) -> Replayed
             break;
         }
         records = std::num::wrapping_add_u64(records, 1);
-        differ = std::num::wrapping_add_u64(differ, differs(&block[start..end]));
+        differ = std::num::wrapping_add_u64(differ, differs(output, &block[start..end]));
         start = end + 1;
     }
     Replayed {
@@ -75,12 +81,18 @@ pub struct Kept {
 }
 
 // Replays the first `have` bytes and keeps what is left of them.
-fn replay_block(buffer: &mut [u8], have: usize, more: bool, before: Replayed) -> Kept
+fn replay_block(
+    output: Stdout,
+    buffer: &mut [u8],
+    have: usize,
+    more: bool,
+    before: Replayed,
+) -> Kept
     requires { have ≤ length buffer.old }
     ensures kept_in_bounds { (result.kept ≤ length buffer.old) × (result.replayed ≡ count_on before (take have buffer.old)) }
     ensures buffer_after { take result.kept buffer.new ≡ drop result.replayed.used (take have buffer.old) }
 {
-    let replayed = replay(&buffer[..have], before);
+    let replayed = replay(output, &buffer[..have], before);
     let used = replayed.used;
     blocks::keep(buffer, used, have);
     Kept {
@@ -91,18 +103,19 @@ fn replay_block(buffer: &mut [u8], have: usize, more: bool, before: Replayed) ->
 }
 
 // Reads once behind the bytes that are kept, and replays what is there. A record that fills the buffer
-// ends the replay, as the end of the input does.
-fn turn(buffer: &mut [u8], kept: usize, before: Replayed) -> Kept
+// ends the replay, as the end of the input does, and a read that fails.
+fn turn(mut input: Stdin, output: Stdout, buffer: &mut [u8], kept: usize, before: Replayed) -> Kept
     requires { kept ≤ length buffer.old }
     ensures { result.kept ≤ length buffer.old }
 {
-    let got = libc::read(STDIN_FILENO, &mut buffer[kept..]);
-    let n = io::count(got, &buffer[kept..]);
-    replay_block(buffer, kept + n, n > 0, before)
+    match input.read(&mut buffer[kept..]) {
+        Ok(n) => replay_block(output, buffer, kept + n, n > 0, before),
+        Err(_) => replay_block(output, buffer, kept, false, before),
+    }
 }
 
 // A proved loop has to end, so the turns are counted down from a number that no run uses up.
-fn replay_all(buffer: &mut [u8]) -> Replayed {
+fn replay_all(input: Stdin, output: Stdout, buffer: &mut [u8]) -> Replayed {
     let mut replayed = Replayed {
         used: 0,
         records: 0,
@@ -111,7 +124,7 @@ fn replay_all(buffer: &mut [u8]) -> Replayed {
     let mut kept = 0;
     let mut turns = u64::MAX;
     while turns > 0 {
-        let done = turn(buffer, kept, replayed);
+        let done = turn(input, output, buffer, kept, replayed);
         replayed = done.replayed;
         if !done.more {
             break;
@@ -122,11 +135,10 @@ fn replay_all(buffer: &mut [u8]) -> Replayed {
     replayed
 }
 
-fn main() {
-    let mut buffer = io::large_buffer();
-    let replayed = replay_all(&mut buffer);
-    io::print_decimal(STDOUT_FILENO, replayed.records);
-    io::write_all(STDOUT_FILENO, b" records replayed, ");
-    io::print_decimal(STDOUT_FILENO, replayed.differ);
-    io::write_all(STDOUT_FILENO, b" differ\n");
+fn main(rt: HostRuntime) -> io::Result<()> {
+    let mut buffer = [0u8; 65536];
+    let replayed = replay_all(rt.stdin(), rt.stdout(), &mut buffer);
+    let records = replayed.records;
+    let differ = replayed.differ;
+    println!(rt; "{records} records replayed, {differ} differ")
 }
