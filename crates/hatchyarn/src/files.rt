@@ -40,12 +40,18 @@ fn answer_file(
     }
 }
 
-// Says that the argument whose start stands in the room is too long to name a file. It is shown cut.
-fn too_long(program: &Program, path: &[u8; 4096]) {
-    let mut shown = [0u8; 63];
-    shown[..60].copy_from_slice(&path[..60]);
-    shown[60..].copy_from_slice(b"...");
-    output::fail(program, &shown, io::Error::from_raw_os_error(NAME_TOO_LONG));
+// Says that an argument, whose start fills the path, is too long to name a file. It is shown cut.
+fn too_long(program: &Program, path: &mut [u8])
+    requires { 63 ≤ length path.old }
+{
+    path[60] = b'.';
+    path[61] = b'.';
+    path[62] = b'.';
+    output::fail(
+        program,
+        &path[..63],
+        io::Error::from_raw_os_error(NAME_TOO_LONG),
+    );
 }
 
 // Answers the file that argument i names; the one at `end` names none. A name that does not fit the room
@@ -68,7 +74,7 @@ fn answer_argument<R: Env + Files>(
     match rt.arg(i, &mut path) {
         Ok(n) => answer_file(rt, program, &path[..n], buffer, room),
         Err(_) => {
-            too_long(program, &path);
+            too_long(program, &mut path);
             false
         }
     }
