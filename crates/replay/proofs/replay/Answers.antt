@@ -1,5 +1,5 @@
 -- `replay::replay` meets its contract. Assumes nothing.
-use Rattle.std.proofs.Common.{◌≡◌, ◌+◌, ◌%◌, ◌^◌, drop, sym, ◌∙◌, arith, length-drop}
+use Rattle.std.proofs.Common.{◌≡◌, ◌+◌, ◌%◌, ◌^◌, drop, sym, ◌∙◌, arith, length-drop, rules}
 use Rattle.text.proofs.LineLaws.{end_within}
 use Rattle.replay.proofs.{CountLaws.counts_on, CountLaws.counts_out, CountLaws.counts_whole}
 use Rattle.replay.proofs.replay.Goals as goal
