@@ -1,19 +1,22 @@
-/* The program's exit status. A Rattle program ends with 0 whatever happened, and hatchyarn writes to
- * standard error exactly if something failed. So its writes pass through here: if one was meant for
- * standard error, whether it could be written or not, the status is 1. ./build links this beside the
- * proved code, in place of the C library's write. The kit's compiler has no headers, so what is used
- * is declared here. */
+/* The program's exit status. hatchyarn writes to standard error exactly if something failed. So its writes
+ * pass through here: if one was meant for standard error, whether it could be written or not, the status
+ * is 1. A Rattle program ignores SIGPIPE from its start on; this one takes it as it inherits it, so that a
+ * signal ends it as usual. ./build links this beside the proved code, in place of the C library's write and
+ * of the call that sets SIGPIPE. The kit's compiler has no headers, so what is used is declared here. */
 typedef __SIZE_TYPE__ size_t;
 typedef __PTRDIFF_TYPE__ ssize_t;
+typedef void (*handler)(int);
 
 struct iovec {
     const void *base;
     size_t length;
 };
 
-/* Hidden, so that it stands in for the proved code alone: what a library that is loaded with the program
+/* Hidden, so that they stand in for the proved code alone: what a library that is loaded with the program
  * writes is no word of the program's. */
 __attribute__((visibility("hidden"))) ssize_t write(int fd, const void *bytes, size_t length);
+__attribute__((visibility("hidden"))) ssize_t __write(int fd, const void *bytes, size_t length);
+__attribute__((visibility("hidden"))) handler __sysv_signal(int signal, handler with);
 ssize_t writev(int fd, const struct iovec *parts, int count);
 _Noreturn void _exit(int status);
 
@@ -24,6 +27,19 @@ ssize_t write(int fd, const void *bytes, size_t length)
     if (fd == 2)
         failed = 1;
     return writev(fd, &(struct iovec){bytes, length}, 1);
+}
+
+/* What main's own error is written by. */
+ssize_t __write(int fd, const void *bytes, size_t length)
+{
+    return write(fd, bytes, length);
+}
+
+handler __sysv_signal(int signal, handler with)
+{
+    (void)signal;
+    (void)with;
+    return 0;
 }
 
 /* Runs when main has returned. */
