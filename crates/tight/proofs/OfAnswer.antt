@@ -13,38 +13,38 @@ module _ {M : Type 1} where
   pub answer-limited : Tight M answer.limited.signature (λ 𝓤. answer.limited.clauses)
   answer-limited c g r s = plainly c.𝓤 (λ e d. (same e d, refl))
 
-  pub answer_of-c8 : Tight M answer.of_c8.signature (λ 𝓤. answer.of_c8.clauses)
-  answer_of-c8 c g r s = plainly c.𝓤 (λ e d. (same e d, refl))
+  pub answer-of_c8 : Tight M answer.of_c8.signature (λ 𝓤. answer.of_c8.clauses)
+  answer-of_c8 c g r s = plainly c.𝓤 (λ e d. (same e d, refl))
 
-  pub answer_of-co8 : Tight M answer.of_co8.signature (λ 𝓤. answer.of_co8.clauses)
-  answer_of-co8 c g r s = plainly c.𝓤 (λ e d. (same e d, refl))
+  pub answer-of_co8 : Tight M answer.of_co8.signature (λ 𝓤. answer.of_co8.clauses)
+  answer-of_co8 c g r s = plainly c.𝓤 (λ e d. (same e d, refl))
 
-  pub answer_of-coa8 : Tight M answer.of_coa8.signature (λ 𝓤. answer.of_coa8.clauses)
-  answer_of-coa8 c g r s = plainly c.𝓤 (λ e d. (same e d, refl))
+  pub answer-of_coa8 : Tight M answer.of_coa8.signature (λ 𝓤. answer.of_coa8.clauses)
+  answer-of_coa8 c g r s = plainly c.𝓤 (λ e d. (same e d, refl))
 
-  pub answer_of-c16 : Tight M answer.of_c16.signature (λ 𝓤. answer.of_c16.clauses)
-  answer_of-c16 c g r s = plainly c.𝓤 (λ e d. (same e d, refl))
+  pub answer-of_c16 : Tight M answer.of_c16.signature (λ 𝓤. answer.of_c16.clauses)
+  answer-of_c16 c g r s = plainly c.𝓤 (λ e d. (same e d, refl))
 
-  pub answer_of-co16 : Tight M answer.of_co16.signature (λ 𝓤. answer.of_co16.clauses)
-  answer_of-co16 c g r s = plainly c.𝓤 (λ e d. (same e d, refl))
+  pub answer-of_co16 : Tight M answer.of_co16.signature (λ 𝓤. answer.of_co16.clauses)
+  answer-of_co16 c g r s = plainly c.𝓤 (λ e d. (same e d, refl))
 
-  pub answer_of-coa16 : Tight M answer.of_coa16.signature (λ 𝓤. answer.of_coa16.clauses)
-  answer_of-coa16 c g r s = plainly c.𝓤 (λ e d. (same e d, refl))
+  pub answer-of_coa16 : Tight M answer.of_coa16.signature (λ 𝓤. answer.of_coa16.clauses)
+  answer-of_coa16 c g r s = plainly c.𝓤 (λ e d. (same e d, refl))
 
-  pub answer_of-product8 : Tight M answer.of_product8.signature (λ 𝓤. answer.of_product8.clauses)
-  answer_of-product8 c g r s = plainly c.𝓤 (λ e d. (same e d, refl))
+  pub answer-of_product8 : Tight M answer.of_product8.signature (λ 𝓤. answer.of_product8.clauses)
+  answer-of_product8 c g r s = plainly c.𝓤 (λ e d. (same e d, refl))
 
-  pub answer_of-product16 : Tight M answer.of_product16.signature (λ 𝓤. answer.of_product16.clauses)
-  answer_of-product16 c g r s = plainly c.𝓤 (λ e d. (same e d, refl))
+  pub answer-of_product16 : Tight M answer.of_product16.signature (λ 𝓤. answer.of_product16.clauses)
+  answer-of_product16 c g r s = plainly c.𝓤 (λ e d. (same e d, refl))
 
-  pub answer_of-divided8 : Tight M answer.of_divided8.signature (λ 𝓤. answer.of_divided8.clauses)
-  answer_of-divided8 c g r s = plainly c.𝓤 (λ e d. (same e d, refl))
+  pub answer-of_divided8 : Tight M answer.of_divided8.signature (λ 𝓤. answer.of_divided8.clauses)
+  answer-of_divided8 c g r s = plainly c.𝓤 (λ e d. (same e d, refl))
 
-  pub answer_of-divided16 : Tight M answer.of_divided16.signature (λ 𝓤. answer.of_divided16.clauses)
-  answer_of-divided16 c g r s = plainly c.𝓤 (λ e d. (same e d, refl))
+  pub answer-of_divided16 : Tight M answer.of_divided16.signature (λ 𝓤. answer.of_divided16.clauses)
+  answer-of_divided16 c g r s = plainly c.𝓤 (λ e d. (same e d, refl))
 
-  pub answer_of-adjusted : Tight M answer.of_adjusted.signature (λ 𝓤. answer.of_adjusted.clauses)
-  answer_of-adjusted c g r s = plainly c.𝓤 (λ e d. (same e d, refl))
+  pub answer-of_adjusted : Tight M answer.of_adjusted.signature (λ 𝓤. answer.of_adjusted.clauses)
+  answer-of_adjusted c g r s = plainly c.𝓤 (λ e d. (same e d, refl))
 
   pub answer-zeros : Tight M answer.zeros.signature (λ 𝓤. answer.zeros.clauses)
   answer-zeros c g r s = plainly c.𝓤 (λ e d. (same e d, refl))

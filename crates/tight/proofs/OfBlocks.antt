@@ -5,5 +5,5 @@ use Rattle.tight.specs.Tight.{Tight}
 use Rattle.tight.proofs.Law.{plainly, same}
 
 module _ {M : Type 1} where
-  pub lib_keep : Tight M lib.keep.signature (λ 𝓤. lib.keep.clauses)
-  lib_keep c g r s = plainly c.𝓤 (λ e d. (refl, λ i. (same e d i, (tt, (tt, tt)))))
+  pub lib-keep : Tight M lib.keep.signature (λ 𝓤. lib.keep.clauses)
+  lib-keep c g r s = plainly c.𝓤 (λ e d. (refl, λ i. (same e d i, (tt, (tt, tt)))))

@@ -18,5 +18,5 @@ module _ {M : Type 1} where
   pub compare-would_trap16 : Tight M compare.would_trap16.signature (λ 𝓤. compare.would_trap16.clauses)
   compare-would_trap16 c g r s = plainly c.𝓤 (λ e d. (same e d, refl))
 
-  pub lib_would_trap : Tight M lib.would_trap.signature (λ 𝓤. lib.would_trap.clauses)
-  lib_would_trap c g r s = plainly c.𝓤 (λ e d. let t = same e d in (λ i. (t i).status, λ i. (tt, (tt, (tt, ((t i).trap, tt))))))
+  pub lib-would_trap : Tight M lib.would_trap.signature (λ 𝓤. lib.would_trap.clauses)
+  lib-would_trap c g r s = plainly c.𝓤 (λ e d. let t = same e d in (λ i. (t i).status, λ i. (tt, (tt, (tt, ((t i).trap, tt))))))
