@@ -1,8 +1,8 @@
-// What a program in another language calls, by way of embed_c: a request given as numbers, whether a divide would trap, by which
-// roads the ones of its quotient came, an operation over registers that remember their steps, one line, a run
-// over many lines, packed decimal strings added and subtracted, and answer lines read back. Nothing is required
-// of a caller but that each pointer leads to as many bytes as it says, and that what is written overlaps nothing
-// else that is lent.
+// What a program in another language calls, by way of `embed_c`: a request given as numbers, whether a divide
+// would trap, by which roads the ones of its quotient came, an operation over registers that remember their
+// steps, one line, a run over many lines, packed decimal strings added and subtracted, and answer lines read
+// back. Nothing is required of a caller but that each pointer leads to as many bytes as it says, and that what
+// is written overlaps nothing else that is lent.
 #![tactic(auto)]
 
 ghost use Rattle.std.specs.Prelude.{◌≡◌, ◌/◌, length};
