@@ -7,7 +7,7 @@ mod files;
 mod help;
 
 use program::options::Asked;
-use program::{Program, options, output};
+use program::{Program, options};
 use std::process::ExitCode;
 
 // The exit status is 0 if everything was read, answered and written, and else 1.
@@ -28,8 +28,7 @@ fn main(rt: HostRuntime) -> ExitCode {
         }
         Asked::Work(end) => files::answer_files(&rt, &program, end),
     };
-    let closed = output::close(&rt, &program);
-    if done && closed {
+    if done {
         ExitCode::SUCCESS
     } else {
         ExitCode::FAILURE
