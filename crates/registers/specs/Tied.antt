@@ -7,7 +7,7 @@ use Rattle.registers.specs.declared.record.Registers.{Registers}
 use Rattle.registers.specs.declared.record.Settled.{Settled}
 
 -- o is what was told and left of record r, and a the answer. Status and steps are the answer's. Done, AX and DX take its results, and the flags are
--- its flags; a refused divide leaves AX and DX, stores its flags, and its steps go into the total; after 4 and 5 the record is as it was. What 3 and 10 leave is in `Stays-after`
+-- its flags; a refused divide leaves AX and DX, stores its flags, and its steps go into the total; after 4 and 5 the record is as it was. What 3 and 10 leave is in `stays_after`
 pub record Tied (op mode : ℕ) (r : Registers) (a : Answer) (o : Settled) : Type 0 where
   pub status : o.status ≡ a.status
   pub steps : o.steps ≡ a.steps
