@@ -1,8 +1,8 @@
 -- What `at_once` computes of a number of m bits, by shifts and masks of 64 bits, is what the steps come to. Assumes nothing.
 use mathlib.Core.{Path.◌≡◌, Path.sym, Path.ap, Path.◌∙◌, Bool.Bool, Bool.true, Bool.false}
 use Prim.Native.Nat.{ℕ, ◌+◌, ◌-◌, ◌*◌, ◌/◌, ◌%◌, ◌^◌, ◌≤◌, ◌<◌, min}
-use native.Mathlib.{Nat.lt_of_lt_of_le, Nat.pow-le-pow_right, Nat.zero-mod, Nat.mul_assoc, Nat.min-le_right, Nat.mod-lt, Nat.mul-add-div_right, Omega.arith}
-use lib.{Arith.digits_mod, Arith.digits_lt, Bits.bit_and, Bits.bit_or, Bits.and_mask, Bits.or_shifted, Dec.lit<}
+use native.Mathlib.{Nat.zero-mod, Nat.mul_assoc, Nat.min-le_right, Nat.mod-lt, Nat.mul-add-div_right, Omega.arith}
+use lib.{Arith.digits_mod, Arith.digits_lt, Bits.bit_and, Bits.bit_or, Bits.and_mask, Bits.or_shifted}
 use lib.Pow.{pow-add, pow_pos, shr_lt, shl_exact, split, low, ones_split, ones_lt}
 use Rattle.numbers.specs.Numbers.{bit, top_set}
 use Rattle.alu.specs.Step.{Shl, Shr, Sar, Rol, Ror, before, steps}
@@ -31,9 +31,6 @@ halves m k u l p h =
     ap (λ (n : ℕ). (u * 2 ^ n + l) / 2 ^ k % 2 ^ n) e ∙ two_halves (m - k) k u l (omega (arith, h, ap (λ (n : ℕ). 2 ^ n) e))
 
 module _ (m : ℕ) (most : m ≤ 17) where
-  pub power : 1 * 2 ^ m % 2 ^ 64 ≡ 2 ^ m
-  power = shl_exact 1 m 64 (lit< tt) (omega arith) ∙ omega arith
-
   masked : {o : ℕ} (y : ℕ) → o ≡ 2 ^ m - 1 → bit_and y o ≡ y % 2 ^ m
   masked y e = ap (bit_and y) e ∙ and_mask y m
 
@@ -55,16 +52,6 @@ module _ (m : ℕ) (most : m ≤ 17) where
     module _ {g o : ℕ} (eg : g ≡ bit (top_set m x)) (eo : o ≡ 2 ^ m - 1) where
       all_signs : g * o ≡ bit (top_set m x) * (2 ^ m - 1)
       all_signs = ap (λ (d : ℕ). d * o) eg ∙ ap (λ (y : ℕ). bit (top_set m x) * y) eo
-
-      pub signs_lt : g * o < 2 ^ m
-      signs_lt = by (top_set m x) all_signs
-        where
-          by : (t : Bool) → g * o ≡ bit t * (2 ^ m - 1) → g * o < 2 ^ m
-          by true e = omega (arith, e, pow_pos m)
-          by false e = omega (arith, e, pow_pos m)
-
-      pub signs_fit : g * o < 2 ^ 17
-      signs_fit = lt_of_lt_of_le signs_lt (pow-le-pow_right (lit< tt) most)
 
       pub sar-at_once : 0 < m → (p : ℕ) {w : ℕ} → p ≡ min k m → w ≡ (g * o * 2 ^ m + x) / 2 ^ p % 2 ^ m → w ≡ (steps m Sar k (before x false)).value
       sar-at_once hm p ep ew =

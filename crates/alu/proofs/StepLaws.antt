@@ -1,51 +1,15 @@
--- Shifts and rotates over the width n: a single step of the code is one of the definition, steps keep n bits, and the flags of the last step are as the code tests them.
+-- Shifts and rotates over the width n: steps keep n bits, and a flag of the last step is as the code tests it.
 -- Assumes nothing.
-use mathlib.Core.{Path.◌≡◌, Path.refl, Path.sym, Path.ap, Path.◌∙◌, Bool.Bool, Bool.true, Bool.false, Bool.not, Bool.xor, Bool.beq}
-use Prim.Native.Nat.{ℕ, zero, suc, ◌+◌, ◌-◌, ◌*◌, ◌/◌, ◌%◌, ◌^◌, ◌<◌}
-use native.Mathlib.{Nat.mod-eq_of_lt, Nat.mod-lt, Nat.div-eq_of_lt, Omega.arith}
-use lib.{Arith.digits_div, Bits.bit_and, Bits.bit_or, Bits.or_shifted, Dec.eqb, Pow.pow_pos}
+use mathlib.Core.{Path.◌≡◌, Path.refl, Path.ap, Path.◌∙◌, Bool.Bool, Bool.true, Bool.false, Bool.not}
+use Prim.Native.Nat.{ℕ, zero, suc, ◌+◌, ◌-◌, ◌*◌, ◌/◌, ◌^◌, ◌<◌}
+use native.Mathlib.{Nat.mod-lt, Nat.div-eq_of_lt, Omega.arith}
+use lib.{Arith.digits_div, Bits.bit_and, Dec.eqb, Pow.pow_pos}
 use borrow.Author.Tests.{le-leb, lt-leb}
 use Rattle.numbers.specs.Numbers.{bit, is_set, top, top_set}
-use Rattle.numbers.proofs.{Powers.top_twice, Powers.rest_small, Powers.rest_large, Masks.mask_bit, Masks.mask_top, Masks.or_bit, SignedLaws.TopIs, SignedLaws.top_is}
-use Rattle.numbers.proofs.BitLaws.{bit_le}
+use Rattle.numbers.proofs.{Powers.top_twice, Masks.mask_bit, SignedLaws.TopIs, SignedLaws.top_is}
 use Rattle.alu.specs.Result.{ResultCo, ResultCoa}
 use Rattle.alu.specs.Step.{Shift, Shl, Shr, Sar, Rol, Ror, Rcl, Rcr, Step, before, left, right, step, steps}
-use Rattle.alu.specs.Shift.{of_last, left_o, right_o, with_a, shl, shl_af}
-
-module _ (n x : ℕ) (e : Bool) (hn : 0 < n) (hx : x < 2 ^ n) where
-  pub left_is : ◌≡◌ {A = Step} (record { value = bit_or (x * 2 % 2 ^ n) (bit e); carry = not (eqb (bit_and x (top n)) 0) }) (left n e x)
-  unfolding left
-  left_is = λ i. record { value = shifted (top_set n x) (top_is n x) i; carry = mask_top n x hn hx i }
-    where
-      shifted : (s : Bool) → TopIs s (top n) x → bit_or (x * 2 % 2 ^ n) (bit e) ≡ (x * 2 + bit e) % 2 ^ n
-      shifted true h =
-          let m = top_twice n hn in
-          let b = bit_le e in
-          let low = rest_large (x * 2) (2 ^ n) (omega arith) (omega arith) in
-          let all = rest_large (x * 2 + bit e) (2 ^ n) (omega arith) (omega arith) in
-          or_bit (x * 2 % 2 ^ n) (bit e) (omega arith) (omega arith) ∙ omega arith
-      shifted false h =
-          let m = top_twice n hn in
-          let b = bit_le e in
-          let low = rest_small (x * 2) (2 ^ n) (omega arith) in
-          let all = rest_small (x * 2 + bit e) (2 ^ n) (omega arith) in
-          or_bit (x * 2 % 2 ^ n) (bit e) (omega arith) (omega arith) ∙ omega arith
-
-  pub right_is : ◌≡◌ {A = Step} (record { value = bit_or (bit e * top n % 2 ^ n) (x / 2); carry = not (eqb (bit_and x 1) 0) }) (right n e x)
-  unfolding right
-  right_is = λ i. record { value = shifted e i; carry = mask_bit 0 x i }
-    where
-      half : (e : Bool) → (bit e * 2 ^ n + x) / 2 ≡ bit e * top n + x / 2
-      half true = let m = top_twice n hn in omega arith
-      half false = omega arith
-
-      fits : (e : Bool) → bit e * top n < 2 ^ n
-      fits true = let m = top_twice n hn in omega arith
-      fits false = omega arith
-
-      shifted : (e : Bool) → bit_or (bit e * top n % 2 ^ n) (x / 2) ≡ (bit e * 2 ^ n + x) / 2
-      shifted e =
-          ap (λ (y : ℕ). bit_or y (x / 2)) (mod-eq_of_lt (fits e)) ∙ or_shifted (bit e) (n - 1) (x / 2) (let m = top_twice n hn in omega arith) ∙ sym (half e)
+use Rattle.alu.specs.Shift.{of_last, with_a, shl, shl_af}
 
 -- n bits stay n bits
 right_keeps : (n : ℕ) (enters : Bool) (x : ℕ) → x < 2 ^ n → (bit enters * 2 ^ n + x) / 2 < 2 ^ n
@@ -93,31 +57,10 @@ unfolding step steps
 stays n x c hn zero = refl
 stays n x c hn (suc k) = kept n (steps n Sar k (before x c)).value hn ∙ stays n x c hn k
 
--- a flag of the last step, where there is none and where there is one
-pub no_step : (count : ℕ) (flag : Bool) → count ≡ 0 → false ≡ of_last count flag
-no_step zero flag e = refl
-no_step (suc k) flag e = absurd (omega arith)
-
+-- a flag of the last step, where there is one
 pub some_step : (count : ℕ) (flag : Bool) → 0 < count → flag ≡ of_last count flag
 some_step zero flag h = absurd (omega arith)
 some_step (suc k) flag h = refl
-
--- O as the code tests it
-module _ (n x count : ℕ) (c : Bool) (hn : 0 < n) (hx : x < 2 ^ n) {o : Bool} where
-  pub left_o_lem : o ≡ of_last count (not (beq c (not (eqb (bit_and x (top n)) 0)))) → ◌≡◌ {A = ResultCo} (record { result = x; carry = c; overflow = o }) (left_o n count (before x c))
-  unfolding xor
-  left_o_lem e =
-      let flag = e ∙ ap (λ (b : Bool). of_last count (not (beq c b))) (mask_top n x hn hx) in
-      λ i. record { result = x; carry = c; overflow = flag i }
-
-  pub right_o_lem : o ≡ of_last count (not (beq (not (eqb (bit_and x (top n)) 0)) (not (eqb (bit_and x (2 ^ (n - 2))) 0))))
-      → ◌≡◌ {A = ResultCo} (record { result = x; carry = c; overflow = o }) (right_o n count (before x c))
-  unfolding xor
-  right_o_lem e =
-      let flag =
-      e ∙ ap (λ (b : Bool). of_last count (not (beq b (not (eqb (bit_and x (2 ^ (n - 2))) 0))))) (mask_top n x hn hx)
-      ∙ ap (λ (b : Bool). of_last count (not (beq (top_set n x) b))) (mask_bit (n - 2) x) in
-      λ i. record { result = x; carry = c; overflow = flag i }
 
 -- A of op 0C, on what SHL gave
 pub with_a_lem : (n x count : ℕ) {r : ResultCo} {a : Bool} → r ≡ shl n x count → a ≡ of_last count (not (eqb (bit_and r.result 16) 0))

@@ -1,6 +1,8 @@
 // A number of 8, 9, 16 or 17 bits, shifted or rotated by a whole count at once. Where C is wanted, the
 // number has one bit more than its operation, above the value or below it: what stands there after the
 // move is C.
+// So the bits are an argument and no type. What a function asks of them and of the number stays in its contract:
+// a struct with that as its invariant would ask more of a caller.
 ghost use Rattle.std.specs.Prelude.{false, ◌≡◌, min, ◌+◌, ◌-◌, ◌*◌, ◌/◌, ◌%◌, ◌^◌, ◌≤◌, ◌<◌};
 ghost use Rattle.numbers.specs.Numbers.{bit, top_set};
 ghost use Rattle.alu.specs.Step.{Shl, Shr, Sar, Rol, Ror, before, steps};
@@ -18,11 +20,7 @@ fn places(bits: u32, count: u8) -> u32
     requires { (8 ≤ bits) × (bits ≤ 17) }
     ensures { result ≡ min count bits }
 {
-    if (count as u32) < bits {
-        count as u32
-    } else {
-        bits
-    }
+    (count as u32).min(bits)
 }
 
 // What leaves above is cut off.

@@ -1,6 +1,6 @@
-// The 8088's ALU operations, after cpu_common/alu.rs of MartyPC: one function for each width, named
-// as there with the width behind. No operation refuses and none asks anything of its caller. What the
-// shifts and rotates share is in `at_once` and `last`; `step` is for CORX and CORD.
+// The 8088's ALU operations, after cpu_common/alu.rs of MartyPC, named as there: one function for both widths.
+// No operation refuses and none asks anything of its caller. What the shifts and rotates share is in `at_once`
+// and `last`; `step` is a single step of them, as CORX and CORD make one at a time.
 #![tactic(auto)]
 
 pub mod addition;

@@ -1,56 +1,36 @@
-// A single step of a shift, which CORX and CORD make one at a time. A shift or rotate by a count is in `at_once`.
+// A single step of a shift. A shift or rotate by a count is in `at_once`.
 ghost use Rattle.std.specs.Prelude.{◌≡◌};
 ghost use Rattle.alu.specs.Step.{left, right};
-ghost use Rattle.alu.specs.Views.{step8, step16};
+ghost use Rattle.alu.specs.Views.{stepped};
 
-use flags::width::{Width8, Width16};
-
-// A value and the bit that last left it.
-#[derive(Drop)]
-pub struct Step8 {
-    pub value: u8,
-    pub carry: bool,
-}
-
-pub fn left8(enters: bool, value: u8) -> Step8
-    ensures { step8 result ≡ left 8 enters value }
-{
-    Step8 {
-        value: (value << 1) | enters as u8,
-        carry: value & Width8::TOP != 0,
-    }
-}
-
-pub fn right8(enters: bool, value: u8) -> Step8
-    ensures { step8 result ≡ right 8 enters value }
-{
-    Step8 {
-        value: ((enters as u8) << (Width8::BITS - 1)) | (value >> 1),
-        carry: value & 1 != 0,
-    }
-}
+use flags::number::Number;
 
 // A value and the bit that last left it.
 #[derive(Drop)]
-pub struct Step16 {
-    pub value: u16,
+pub struct Step<N> {
+    pub value: N,
     pub carry: bool,
 }
 
-pub fn left16(enters: bool, value: u16) -> Step16
-    ensures { step16 result ≡ left 16 enters value }
+#[tactic(auto, unfolding(crate::specs::Step::left))]
+pub fn left<N: Number>(enters: bool, value: N) -> Step<N>
+    ensures { stepped N.value result ≡ left N.BITS enters (N.value value) }
 {
-    Step16 {
-        value: (value << 1) | enters as u16,
-        carry: value & Width16::TOP != 0,
+    Step {
+        value: N::cut(value.wide() * 2 + enters as u32),
+        carry: value.top_set(),
     }
 }
 
-pub fn right16(enters: bool, value: u16) -> Step16
-    ensures { step16 result ≡ right 16 enters value }
+#[tactic(auto, unfolding(crate::specs::Step::right))]
+pub fn right<N: Number>(enters: bool, value: N) -> Step<N>
+    ensures { stepped N.value result ≡ right N.BITS enters (N.value value) }
 {
-    Step16 {
-        value: ((enters as u16) << (Width16::BITS - 1)) | (value >> 1),
-        carry: value & 1 != 0,
+    // A bit that enters stands above the value, and comes down with it.
+    let entered = if enters { N::MAX + 1 } else { 0 };
+    let wide = value.wide();
+    Step {
+        value: N::cut((entered + wide) / 2),
+        carry: wide & 1 != 0,
     }
 }

@@ -1,63 +1,36 @@
 // SUB, SBB and NEG.
 ghost use Rattle.std.specs.Prelude.{◌≡◌};
 ghost use Rattle.alu.specs.Sum.{sub, sbb, neg};
-ghost use Rattle.alu.specs.Views.{coa8, coa16};
+ghost use Rattle.alu.specs.Views.{coa};
 
-use crate::result::{ResultCoa8, ResultCoa16};
-use flags::width::{Width8, Width16};
+use crate::result::ResultCoa;
+use flags::number::Number;
 
-pub fn alu_neg8(value: u8) -> ResultCoa8
-    ensures { coa8 result ≡ neg 8 value }
+pub fn alu_neg<N: Number>(value: N) -> ResultCoa<N>
+    ensures { coa N.value result ≡ neg N.BITS (N.value value) }
 {
-    alu_sub8(0, value)
+    alu_sub(N::cut(0), value)
 }
 
-pub fn alu_sub8(lhs: u8, rhs: u8) -> ResultCoa8
-    ensures { coa8 result ≡ sub 8 lhs rhs }
+pub fn alu_sub<N: Number>(lhs: N, rhs: N) -> ResultCoa<N>
+    ensures { coa N.value result ≡ sub N.BITS (N.value lhs) (N.value rhs) }
 {
-    alu_sbb8(lhs, rhs, false)
+    alu_sbb(lhs, rhs, false)
 }
 
-pub fn alu_sbb8(lhs: u8, rhs: u8, carry_in: bool) -> ResultCoa8
-    ensures { coa8 result ≡ sbb 8 lhs rhs carry_in }
+pub fn alu_sbb<N: Number>(lhs: N, rhs: N, carry_in: bool) -> ResultCoa<N>
+    ensures { coa N.value result ≡ sbb N.BITS (N.value lhs) (N.value rhs) carry_in }
 {
-    let taken = rhs as u16 + carry_in as u16;
+    let (a, b) = (lhs.wide(), rhs.wide());
+    let taken = b + carry_in as u32;
     // One more than the largest number is lent, so that the difference is not below 0.
-    let difference = 0x100 + lhs as u16 - taken;
-    let result = (difference % 0x100) as u8;
-    ResultCoa8 {
+    let result = N::cut(N::MAX + 1 + a - taken);
+    let res = result.wide();
+    ResultCoa {
         result,
-        carry: (lhs as u16) < taken,
+        carry: a < taken,
         // What is left and what is taken away both differ in sign from the whole.
-        overflow: (result ^ lhs) & (rhs ^ lhs) & Width8::TOP != 0,
-        aux_carry: (result ^ rhs ^ lhs) & 0x10 != 0,
-    }
-}
-
-pub fn alu_neg16(value: u16) -> ResultCoa16
-    ensures { coa16 result ≡ neg 16 value }
-{
-    alu_sub16(0, value)
-}
-
-pub fn alu_sub16(lhs: u16, rhs: u16) -> ResultCoa16
-    ensures { coa16 result ≡ sub 16 lhs rhs }
-{
-    alu_sbb16(lhs, rhs, false)
-}
-
-pub fn alu_sbb16(lhs: u16, rhs: u16, carry_in: bool) -> ResultCoa16
-    ensures { coa16 result ≡ sbb 16 lhs rhs carry_in }
-{
-    let taken = rhs as u32 + carry_in as u32;
-    // One more than the largest number is lent, so that the difference is not below 0.
-    let difference = 0x1_0000 + lhs as u32 - taken;
-    let result = (difference % 0x1_0000) as u16;
-    ResultCoa16 {
-        result,
-        carry: (lhs as u32) < taken,
-        // What is left and what is taken away both differ in sign from the whole.
-        overflow: (result ^ lhs) & (rhs ^ lhs) & Width16::TOP != 0,
-        aux_carry: (result ^ rhs ^ lhs) & 0x10 != 0,
+        overflow: (res ^ a) & (b ^ a) & N::TOP != 0,
+        aux_carry: (res ^ b ^ a) & 0x10 != 0,
     }
 }

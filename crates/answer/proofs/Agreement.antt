@@ -7,8 +7,9 @@ use borrow.Author.Tests.{leb-true, leb-false, lt-ltb, le-leb, lt-leb}
 use Rattle.numbers.specs.Numbers.{is_set}
 use Rattle.request.specs.{Operation.ops, Operation.listed, Operation.checked, Operation.operation_of, Limits.x_most, Limits.y_most, declared.operation.Operation.Operation}
 use Rattle.request.specs.declared.operation.Operation.TheVariants.{Alu as OfAlu, Multiply as OfMultiply, Divide as OfDivide, Decimal as OfDecimal}
-use Rattle.request.specs.declared.decode.Decoded.{Decoded}
-use Rattle.request.specs.declared.decode.Decoded.TheVariants.{Operation as Names, Unlisted as NotListed, WrongMode as BadMode}
+use Rattle.std.specs.declared.result.Result.TheVariants.{Ok, Err}
+use Rattle.request.specs.Operation.{Decoded}
+use Rattle.request.specs.declared.decode.Undecoded.TheVariants.{Unlisted as NotListed, WrongMode as BadMode}
 use Rattle.request.proofs.RequestLaws.{below, at, over, above}
 use Rattle.answer.specs.{Charted.bits, Table.unlisted, Table.wrong_mode, Table.width_by, Table.x_bits, Table.y_bits}
 
@@ -21,9 +22,9 @@ divides op mode (OfDecimal decimal) = not (eqb op 0x11)
 
 -- listed or not, mode wrong or not, and the limits
 abbrev pub agrees : ℕ → ℕ → Decoded → Bool
-agrees op mode NotListed = unlisted op
-agrees op mode BadMode = not (unlisted op) && wrong_mode op mode
-agrees op mode (Names o) =
+agrees op mode (Err NotListed) = unlisted op
+agrees op mode (Err BadMode) = not (unlisted op) && wrong_mode op mode
+agrees op mode (Ok o) =
     not (wrong_mode op mode) && not (unlisted op) && eqb (x_most o + 1) (2 ^ x_bits op mode) && eqb (y_most o + 1) (2 ^ y_bits op mode) && divides op mode o
 
 -- ops to 1C and modes to 08, by computation
@@ -36,9 +37,9 @@ listed_agree op mode o m =
     at (λ m. agrees op m (operation_of op m)) 9 (at (λ o. below (λ m. agrees o m (operation_of o m)) 9) 0x1D computed op o) mode m
 
 over_agrees : (op mode : ℕ) → 0x07 < mode → (n : Decoded) → agrees op 0x08 n ≡ true → agrees op mode n ≡ true
-over_agrees op mode h NotListed e = e
-over_agrees op mode h BadMode e = rw (lt-ltb 0x07 mode h) e
-over_agrees op mode h (Names o) e = absurd (false≢true e)
+over_agrees op mode h (Err NotListed) e = e
+over_agrees op mode h (Err BadMode) e = rw (lt-ltb 0x07 mode h) e
+over_agrees op mode h (Ok o) e = absurd (false≢true e)
 
 -- an op above 1C is not listed
 above_agrees : (op mode : ℕ) → 0x1C < op → agrees op mode (operation_of op mode) ≡ true

@@ -12,7 +12,8 @@ use Rattle.divide.specs.declared.div.Refusal.TheVariants.{ZeroDivisor, TooWide, 
 use Rattle.divide.proofs.{Refusals.refused-whole, RefusedFlags.flags_not_seen}
 use Rattle.request.specs.{Operation.ops, Operation.listed, Operation.width_of, Operation.mode_of, Operation.operation_of, Limits.x_most, Limits.y_most}
 use Rattle.request.specs.{Judge.raw, Judge.request_of, Judge.judged_by, Judge.judged, Limits.in_limits, Judge.Admitted, Judge.TooLarge}
-use Rattle.request.specs.{declared.decode.Decoded.TheVariants.Operation as Names, declared.decode.Decoded.TheVariants.WrongMode, declared.operation.Operation.TheVariants.Divide}
+use Rattle.std.specs.declared.result.Result.TheVariants.{Ok, Err}
+use Rattle.request.specs.{declared.decode.Undecoded.TheVariants.WrongMode, declared.operation.Operation.TheVariants.Divide}
 use Rattle.answer.specs.{Charted.bits, Charted.refusal_status, Charted.of_divided, Charted.charted, Asked.Raw, Asked.of_judged, Asked.asked}
 use Rattle.answer.specs.{Table.wrong_mode, Table.width_by, Table.too_large, Table.refused_for, Refused.RefusedDivide, Refused.refusal, declared.answer.Answer.Answer}
 use Rattle.numbers.proofs.BoolLaws.{both}
@@ -88,8 +89,8 @@ divide_alike mode x y f g hf hg = by (ltb 0x07 mode)
     by_limits true = ap of_divided (flags_not_seen (bits (width_of mode)) (is_set 1 mode) (is_set 2 mode) x y (flags_of f) (flags_of g))
     by_limits false = refl
 
-    by : (k : Bool) → of_judged (judged_by (cond k WrongMode (Names (Divide (mode_of mode)))) (raw 0x11 mode f x y))
-        ≡ of_judged (judged_by (cond k WrongMode (Names (Divide (mode_of mode)))) (raw 0x11 mode g x y))
+    by : (k : Bool) → of_judged (judged_by (cond k (Err WrongMode) (Ok (Divide (mode_of mode)))) (raw 0x11 mode f x y))
+        ≡ of_judged (judged_by (cond k (Err WrongMode) (Ok (Divide (mode_of mode)))) (raw 0x11 mode g x y))
     by true = refl
     by false =
         by_limits (in_limits (Divide (mode_of mode)) f x y)

@@ -1,4 +1,4 @@
-pub mod AnswerLaws
+pub mod Cut
 pub mod Width
 pub mod Words
 pub mod Agreement

@@ -15,8 +15,9 @@ use Rattle.request.specs.{Operation.operation_of, Limits.x_most, Limits.y_most, 
 use Rattle.request.specs.{declared.operation.Width.TheVariants.Byte, declared.operation.Width.TheVariants.Word, declared.operation.Alu.Alu}
 use Rattle.request.specs.declared.operation.Operation.{Operation}
 use Rattle.request.specs.declared.operation.Operation.TheVariants.{Alu as OfAlu, Multiply as OfMultiply, Divide as OfDivide, Decimal as OfDecimal}
-use Rattle.request.specs.declared.decode.Decoded.{Decoded}
-use Rattle.request.specs.declared.decode.Decoded.TheVariants.{Operation as Names, Unlisted as NotListed, WrongMode as BadMode}
+use Rattle.std.specs.declared.result.Result.TheVariants.{Ok, Err}
+use Rattle.request.specs.Operation.{Decoded}
+use Rattle.request.specs.declared.decode.Undecoded.TheVariants.{Unlisted as NotListed, WrongMode as BadMode}
 use Rattle.request.specs.{Judge.Judged, Judge.Admitted, Judge.Unlisted, Judge.WrongMode, Judge.TooLarge}
 use Rattle.request.specs.declared.operation.Alu.TheVariants as Alus
 use Rattle.multiply.specs.{Routines.Multiplied, Multiply.multiply}
@@ -125,7 +126,7 @@ module _ (r : Raw) where
 
   -- of an operation: its limits, then its chart
   named_status : (o : Operation) → x_most o + 1 ≡ 2 ^ x_bits r.op r.mode → y_most o + 1 ≡ 2 ^ y_bits r.op r.mode → divides r.op r.mode o ≡ true
-      → (of_judged (judged_by (Names o) r)).status ≡ cond (too_large r) 5 of_divide
+      → (of_judged (judged_by (Ok o) r)).status ≡ cond (too_large r) 5 of_divide
   unfolding charted
   named_status o ex ey d =
       rw (past (x_most o) (2 ^ x_bits r.op r.mode) r.x ex, past (y_most o) (2 ^ y_bits r.op r.mode) r.y ey, ← is_masked r.flags, any_not_all)
@@ -141,9 +142,9 @@ module _ (r : Raw) where
   by_table = by (operation_of r.op r.mode) (agreed r.op r.mode)
     where
       by : (n : Decoded) → agrees r.op r.mode n ≡ true → (of_judged (judged_by n r)).status ≡ first_of (rows r)
-      by NotListed e = rw e
-      by BadMode e = let h = both (not (unlisted r.op)) (wrong_mode r.op r.mode) e in rw (not-true (unlisted r.op) h.0, h.1)
-      by (Names o) e =
+      by (Err NotListed) e = rw e
+      by (Err BadMode) e = let h = both (not (unlisted r.op)) (wrong_mode r.op r.mode) e in rw (not-true (unlisted r.op) h.0, h.1)
+      by (Ok o) e =
           let w = not (wrong_mode r.op r.mode) in
           let l = not (unlisted r.op) in
           let x = eqb (x_most o + 1) (2 ^ x_bits r.op r.mode) in

@@ -1,5 +1,5 @@
 -- What an admitted request is answered, by the charts, and where its results stand. Assumes nothing.
-use Rattle.std.specs.Prelude.{cond, ℕ, ◌/◌, ◌%◌}
+use Rattle.std.specs.Prelude.{cond, eqb, ℕ, ◌/◌, ◌%◌}
 use Rattle.flags.specs.Word.{flags_of, word_of, set_c, set_co, set_coa}
 use Rattle.flags.specs.declared.word.Flags.{Flags}
 use Rattle.alu.specs.Result.{ResultC, ResultCo, ResultCoa}
@@ -109,6 +109,14 @@ adjust_of Das ax byte f = das_of ax f
 abbrev pub bits : Width → ℕ
 bits Byte = 8
 bits Word = 16
+
+-- and back: any other count is taken as a word's
+abbrev pub of_bits : ℕ → Width
+of_bits n = cond (eqb n 8) Byte Word
+
+-- a mode at that width
+abbrev pub sized : ℕ → Mode → Mode
+sized n m = record { width = of_bits n; signed = m.signed; rep = m.rep }
 
 -- where the product stands, by the width
 abbrev pub multiplied_by : Width → Multiplied → Answer

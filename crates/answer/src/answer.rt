@@ -1,20 +1,22 @@
 // An answer, and how it is made from what an operation returns: which result is R and which S, the flags, the steps
 // and the status. The flags that an operation sets replace those of the request; the others stay.
 ghost use Rattle.std.specs.Prelude.{◌≡◌};
-ghost use Rattle.divide.specs.Views.{divided8, divided16};
-ghost use Rattle.multiply.specs.Views.{product8, product16};
+ghost use Rattle.alu.specs.Views.{c, co, coa};
+ghost use Rattle.multiply.specs.Views.{product};
+ghost use Rattle.divide.specs.Views.{divided};
 ghost use Rattle.flags.specs.Word.{flags_of};
-ghost use Rattle.alu.specs.Views.{c8, c16, co8, co16, coa8, coa16};
 ghost use Rattle.answer.specs.Charted.{whole_of, zeros as zerosOf, plain_of, limited_to, of_c, of_co, of_coa, of_product8, of_product16, refusal_status, of_divided, of_adjusted};
 
-use alu::result::{ResultC8, ResultC16, ResultCo8, ResultCo16, ResultCoa8, ResultCoa16};
+use alu::result::{ResultC, ResultCo, ResultCoa};
 use bcd::adjust::Adjusted;
-use divide::div::{DivideOutcome8, DivideOutcome16, Divided8, Divided16, Refusal};
+use divide::div::{Divided, Refusal};
+use flags::number::Number;
 use flags::word::Flags;
-use multiply::mul::{Product8, Product16};
+use multiply::mul::Product;
 use request::raw::Request;
 
-#[derive(Clone, Copy)]
+// A status is a number, as C and an answer line have it.
+#[derive(Clone, Copy, Debug, PartialEq, Eq)]
 pub struct Answer {
     pub status: u8,
     pub flags: u16,
@@ -29,7 +31,7 @@ fn whole(status: u8, flags: Flags, steps: u16, r: u16, s: u16) -> Answer
 {
     Answer {
         status,
-        flags: flags.to_word(),
+        flags: u16::from(flags),
         steps,
         r,
         s,
@@ -66,61 +68,52 @@ pub fn limited(request: Request, x_most: u32, y_most: u16, a: Answer) -> Answer
     zeros(5)
 }
 
-// The six below answer an ALU operation. X may be as wide as the operation; `y_most` is its limit of Y.
-pub fn of_c8(made: ResultC8, request: Request, y_most: u16) -> Answer
-    ensures { result ≡ limited_to 0xFF y_most request (of_c (c8 made) (flags_of request.flags)) }
+// R and S are words, and a byte stands in one as it is.
+fn word<N: Number>(number: N) -> u16
+    ensures { result ≡ N.value number }
+{
+    number.wide() as u16
+}
+
+// The three below answer an ALU operation. X may be as wide as the operation; `y_most` is its limit of Y. One for all
+// three results would need a trait that is longer than they are.
+pub fn of_c<N: Number>(made: ResultC<N>, request: Request, y_most: u16) -> Answer
+    ensures { result ≡ limited_to N.MAX y_most request (of_c (c N.value made) (flags_of request.flags)) }
 {
     let flags = Flags::from_word(request.flags).with_c(made.carry);
-    limited(request, 0xFF, y_most, plain(flags, made.result as u16))
+    limited(request, N::MAX, y_most, plain(flags, word(made.result)))
 }
 
-pub fn of_co8(made: ResultCo8, request: Request, y_most: u16) -> Answer
-    ensures { result ≡ limited_to 0xFF y_most request (of_co (co8 made) (flags_of request.flags)) }
+pub fn of_co<N: Number>(made: ResultCo<N>, request: Request, y_most: u16) -> Answer
+    ensures { result ≡ limited_to N.MAX y_most request (of_co (co N.value made) (flags_of request.flags)) }
 {
     let flags = Flags::from_word(request.flags).with_co(made.carry, made.overflow);
-    limited(request, 0xFF, y_most, plain(flags, made.result as u16))
+    limited(request, N::MAX, y_most, plain(flags, word(made.result)))
 }
 
-pub fn of_coa8(made: ResultCoa8, request: Request, y_most: u16) -> Answer
-    ensures { result ≡ limited_to 0xFF y_most request (of_coa (coa8 made) (flags_of request.flags)) }
+pub fn of_coa<N: Number>(made: ResultCoa<N>, request: Request, y_most: u16) -> Answer
+    ensures { result ≡ limited_to N.MAX y_most request (of_coa (coa N.value made) (flags_of request.flags)) }
 {
     let flags = Flags::from_word(request.flags).with_coa(made.carry, made.overflow, made.aux_carry);
-    limited(request, 0xFF, y_most, plain(flags, made.result as u16))
+    limited(request, N::MAX, y_most, plain(flags, word(made.result)))
 }
 
-pub fn of_c16(made: ResultC16, request: Request, y_most: u16) -> Answer
-    ensures { result ≡ limited_to 0xFFFF y_most request (of_c (c16 made) (flags_of request.flags)) }
+// One function for each width: the product of bytes is one result, that of words is two. No `From`, here and below:
+// a name says whose R and S these are, and the definition has it too.
+pub fn of_product8(made: Product<u8>) -> Answer
+    ensures { result ≡ of_product8 (product 8 (λ k. k) made) }
 {
-    let flags = Flags::from_word(request.flags).with_c(made.carry);
-    limited(request, 0xFFFF, y_most, plain(flags, made.result))
+    let product = u16::from_be_bytes([made.upper, made.lower]);
+    whole(0, made.flags, made.steps, product, 0)
 }
 
-pub fn of_co16(made: ResultCo16, request: Request, y_most: u16) -> Answer
-    ensures { result ≡ limited_to 0xFFFF y_most request (of_co (co16 made) (flags_of request.flags)) }
-{
-    let flags = Flags::from_word(request.flags).with_co(made.carry, made.overflow);
-    limited(request, 0xFFFF, y_most, plain(flags, made.result))
-}
-
-pub fn of_coa16(made: ResultCoa16, request: Request, y_most: u16) -> Answer
-    ensures { result ≡ limited_to 0xFFFF y_most request (of_coa (coa16 made) (flags_of request.flags)) }
-{
-    let flags = Flags::from_word(request.flags).with_coa(made.carry, made.overflow, made.aux_carry);
-    limited(request, 0xFFFF, y_most, plain(flags, made.result))
-}
-
-pub fn of_product8(made: Product8) -> Answer
-    ensures { result ≡ of_product8 (product8 made) }
-{
-    whole(0, made.flags, made.steps, made.product, 0)
-}
-
-pub fn of_product16(made: Product16) -> Answer
-    ensures { result ≡ of_product16 (product16 made) }
+pub fn of_product16(made: Product<u16>) -> Answer
+    ensures { result ≡ of_product16 (product 16 (λ k. k) made) }
 {
     whole(0, made.flags, made.steps, made.upper, made.lower)
 }
 
+// No `From` of a refusal: that would stand in `divide`, which knows no status.
 fn refusal_status(why: Refusal) -> u8
     ensures { result ≡ refusal_status why }
 {
@@ -131,35 +124,24 @@ fn refusal_status(why: Refusal) -> u8
     }
 }
 
-pub fn of_divided8(made: Divided8) -> Answer
-    ensures { result ≡ of_divided (divided8 made) }
+pub fn of_divided<N: Number>(made: Divided<N>) -> Answer
+    ensures { result ≡ of_divided (divided N.value made) }
 {
-    let outcome = made.outcome;
+    let Divided {
+        outcome,
+        flags,
+        steps,
+        ..
+    } = made;
     match outcome {
-        DivideOutcome8::Accepted(results) => whole(
+        Ok(results) => whole(
             0,
-            made.flags,
-            made.steps,
-            results.quotient as u16,
-            results.remainder as u16,
+            flags,
+            steps,
+            word(results.quotient),
+            word(results.remainder),
         ),
-        DivideOutcome8::Refused(why) => whole(refusal_status(why), made.flags, made.steps, 0, 0),
-    }
-}
-
-pub fn of_divided16(made: Divided16) -> Answer
-    ensures { result ≡ of_divided (divided16 made) }
-{
-    let outcome = made.outcome;
-    match outcome {
-        DivideOutcome16::Accepted(results) => whole(
-            0,
-            made.flags,
-            made.steps,
-            results.quotient,
-            results.remainder,
-        ),
-        DivideOutcome16::Refused(why) => whole(refusal_status(why), made.flags, made.steps, 0, 0),
+        Err(why) => whole(refusal_status(why), flags, steps, 0, 0),
     }
 }
 

@@ -1,12 +1,11 @@
 // What the adjusts share: the halves of AX, the test of the low digit, and the answer.
 // Tests are joined by `&` and `|`, which look at both sides: no branch, and one way through.
 ghost use Rattle.std.specs.Prelude.{◌≡◌};
-ghost use Rattle.numbers.specs.Numbers.{between};
 ghost use Rattle.bcd.specs.Adjust.{ah_of, al_of, adjusts};
 
 use flags::word::Flags;
 
-#[derive(Drop)]
+#[derive(Clone, Copy)]
 pub struct Adjusted {
     pub ax: u16,
     pub flags: Flags,
@@ -16,19 +15,15 @@ pub struct Adjusted {
 pub fn ah(ax: u16) -> u8
     ensures { result ≡ ah_of ax }
 {
-    (ax / 0x100) as u8
+    let [ah, _] = ax.to_be_bytes();
+    ah
 }
 
 pub fn al(ax: u16) -> u8
     ensures { result ≡ al_of ax }
 {
-    (ax % 0x100) as u8
-}
-
-pub fn between(low: u8, high: u8, x: u8) -> bool
-    ensures { result ≡ between low high x }
-{
-    (low <= x) & (x <= high)
+    let [_, al] = ax.to_be_bytes();
+    al
 }
 
 // The same test for all four: it is what A says afterwards.

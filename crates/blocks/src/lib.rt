@@ -9,10 +9,5 @@ pub fn keep(buffer: &mut [u8], from: usize, to: usize)
     requires { (from ≤ to) × (to ≤ length buffer.old) }
     ensures { buffer.new ≡ take (to - from) (drop from buffer.old) ++ drop (to - from) buffer.old }
 {
-    let n = to - from;
-    let mut i = 0;
-    while i < n {
-        buffer[i] = buffer[from + i];
-        i += 1;
-    }
+    buffer.copy_within(from..to, 0);
 }

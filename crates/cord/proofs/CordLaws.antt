@@ -1,14 +1,36 @@
 -- CORD over the width n: its rounds give the quotient and the remainder, and the chart's count of ones and last compare.
 -- Assumes nothing.
-use mathlib.Core.{Path.◌≡◌, Path.refl, Path.sym, Path.ap, Path.ap₂, Path.◌∙◌, Bool.Bool, Bool.true, Bool.false}
+use mathlib.Core.{Path.◌≡◌, Path.refl, Path.sym, Path.ap, Path.ap₂, Path.◌∙◌, Bool.Bool, Bool.true, Bool.false, Bool.not, Logic.inl, Logic.inr}
 use Prim.Native.Nat.{ℕ, zero, suc, ◌+◌, ◌-◌, ◌*◌, ◌/◌, ◌%◌, ◌^◌, ◌≤◌, ◌<◌}
 use native.Mathlib.{Nat.pow-suc, Nat.div-add-mod', Nat.mod-lt, Nat.mod-eq_of_lt, Nat.div-eq_of_lt, Nat.div-lt_iff_lt-mul, Nat.le-div_iff_mul-le, Omega.arith}
 use lib.{Arith.digits_lt, Arith.digits_div, Arith.digits_mod, Arith.lt-one, Dec.leb, Dec.ltb, Pow.pow-add, Pow.pow_pos}
-use borrow.Author.Tests.{leb-true, leb-false, le-leb, lt-leb}
-use Rattle.numbers.specs.Numbers.{top}
-use Rattle.numbers.proofs.Powers.{top_twice}
+use borrow.Author.Tests.{leb-true, leb-false, le-leb, lt-leb, lt-ltb, le-ltb}
+use Rattle.std.proofs.Math.Nat.{div-le_self}
+use Rattle.std.proofs.lemmas.Nat.{shl_whole, one_shl}
+use Rattle.numbers.specs.Numbers.{top, top_set}
+use Rattle.numbers.proofs.{Powers.top_twice, Widths.Width, Widths.most_bits}
 use Rattle.cord.specs.Round.{Round, high, low, by_road, cord_round}
 use Rattle.cord.specs.Cord.{CordAnswer, accepted, refused, shifted, Road, shifted_out, no_borrow, borrow as borrows, road_by, road, tally, by_shifted_out, shifted_outs, by_no_borrow, no_borrows, both_roads, no_roads, last_by, last_compare, cord_steps, cord}
+
+-- ---- the shifts of the code, whose numbers have 64 bits, and the width k as the code reads it
+
+module _ {n : ℕ} (width : Width n) where
+  -- a half put on top
+  pub on_top : {w x k : ℕ} → w ≡ x → w < 2 ^ n → k ≡ n → w * 2 ^ k % 2 ^ 64 ≡ x * 2 ^ n
+  on_top {w} {x} {k} e h ek = rw ek (shl_whole w n n 64 h (omega (arith, most_bits n width)) ∙ ap (λ (y : ℕ). y * 2 ^ n) e)
+
+  -- the border of two halves
+  pub border_at : {k : ℕ} → k ≡ n → 1 * 2 ^ (2 * k) % 2 ^ 64 ≡ 2 ^ n * 2 ^ n
+  border_at {k} ek =
+      let both : 2 * k ≡ n + n = omega arith in
+      one_shl (2 * k) 64 (omega (arith, most_bits n width)) ∙ ap (λ (j : ℕ). 2 ^ j) both ∙ pow-add 2 n n
+
+  -- a number of two halves fits 32 bits, and so does its upper half
+  pub both_fit : (x : ℕ) → x / 2 ^ n < 2 ^ n → x < 2 ^ 32
+  both_fit x h = elim width [ inl e ↦ (let h8 = rw e at h in omega arith) | inr e ↦ (let h16 = rw e at h in omega arith) ]
+
+  pub half_fits : (x : ℕ) {k : ℕ} → x / 2 ^ n < 2 ^ n → k ≡ n → x / 2 ^ k < 2 ^ 32
+  half_fits x h ek = rw ek (omega (arith, both_fit x h, div-le_self x (2 ^ n)))
 
 -- ---- a round of the code
 
@@ -64,22 +86,22 @@ module _ (n b x l u v : ℕ) (hn : 0 < n) where
   below : (y : ℕ) → x * 2 < y * 2 ^ n → high n s < y
   below y h = let q : x * 2 / 2 ^ n < y = (div-lt_iff_lt-mul (pow_pos n)).1 h in rw high_is at q
 
-  pub by_first : b < 2 ^ n → 2 ^ n * 2 ^ n ≤ x * 2 → halved n (x * 2 + 1 - b * 2 ^ n) l (u + 1) v ≡ cord_round n b s
-  unfolding cord_round
-  by_first hb h =
-      let out = reaches (2 ^ n) h in
-      rw (le-leb (2 ^ n) (high n s) out) (same (u + 1) v (less_high (omega arith)) (less_low (omega arith)) refl)
-
-  module _ (h : x * 2 < 2 ^ n * 2 ^ n) where
-    pub by_second : b * 2 ^ n ≤ x * 2 → halved n (x * 2 + 1 - b * 2 ^ n) (x * 2) u (v + 1) ≡ cord_round n b s
+  module _ {divisor border : ℕ} (ed : divisor ≡ b * 2 ^ n) (eb : border ≡ 2 ^ n * 2 ^ n) where
+    pub by_first : b < 2 ^ n → border ≤ x * 2 → halved n (x * 2 + 1 - divisor) l (u + 1) v ≡ cord_round n b s
     unfolding cord_round
-    by_second i =
-        let takes = reaches b i in
-        rw (lt-leb (2 ^ n) (high n s) (below (2 ^ n) h), le-leb b (high n s) takes) (same u (v + 1) (less_high takes) (less_low takes) high_is)
+    by_first hb h =
+        let out = reaches (2 ^ n) (omega arith) in
+        rw (ed, le-leb (2 ^ n) (high n s) out) (same (u + 1) v (less_high (omega arith)) (less_low (omega arith)) refl)
 
-    pub by_third : x * 2 < b * 2 ^ n → halved n (x * 2) (x * 2) u v ≡ cord_round n b s
+    pub by_second : x * 2 < border → divisor ≤ x * 2 → halved n (x * 2 + 1 - divisor) (x * 2) u (v + 1) ≡ cord_round n b s
     unfolding cord_round
-    by_third i = rw (lt-leb (2 ^ n) (high n s) (below (2 ^ n) h), lt-leb b (high n s) (below b i)) (same u v high_is low_is high_is)
+    by_second h i =
+        let takes = reaches b (omega arith) in
+        rw (ed, lt-leb (2 ^ n) (high n s) (below (2 ^ n) (omega arith)), le-leb b (high n s) takes) (same u (v + 1) (less_high takes) (less_low takes) high_is)
+
+    pub by_third : x * 2 < border → x * 2 < divisor → halved n (x * 2) (x * 2) u v ≡ cord_round n b s
+    unfolding cord_round
+    by_third h i = rw (lt-leb (2 ^ n) (high n s) (below (2 ^ n) (omega arith)), lt-leb b (high n s) (below b (omega arith))) (same u v high_is low_is high_is)
 
 -- ---- the walk
 
@@ -261,6 +283,14 @@ compared_lt n b s e h = rw e (by (leb (2 ^ n) (high n s)) (leb b (high n s)) ref
 
 -- ---- the answer
 
+-- the top bit clear, as C says it
+not_leb : (a b : ℕ) → not (leb a b) ≡ ltb b a
+not_leb a b = by (leb a b) refl
+  where
+    by : (t : Bool) → leb a b ≡ t → not t ≡ ltb b a
+    by true e = sym (le-ltb b a (leb-true a b e))
+    by false e = sym (lt-ltb b a (leb-false a b e))
+
 pub refuses : (n b a c steps : ℕ) → c < 2 ^ n → b ≤ a → record { outcome = refused; carry = false; compared = a; roads = no_roads; steps = steps + 4 } ≡ cord n b (a * 2 ^ n + c) steps
 unfolding cord
 refuses n b a c steps hc h = rw (digits_div a hc, le-leb b a h)
@@ -280,17 +310,6 @@ most_ones n b (suc k) p = omega (arith, most_ones n b k (p / 2), one-road (road 
 -- what a state of the walk offers the next round
 pub ready : (n b d k : ℕ) (s : Round) → 0 < b → Walked n b d k s → (s.tmpa < b) × (s.shifted_out + s.no_borrow ≤ k)
 ready n b d k s pos w = (omega (arith, w.upper, mod-lt w.p pos), omega (arith, w.outs, w.plains, most_ones n b k w.p))
-
--- the answer that the code makes of a state, with C and the steps
-abbrev pub answer_of : Round → Bool → ℕ → CordAnswer
-answer_of s carry t =
-    record {
-      outcome = accepted (record { quotient = s.tmpc; remainder = s.tmpa });
-      carry = carry;
-      compared = s.compared;
-      roads = both_roads s.shifted_out s.no_borrow;
-      steps = t;
-    }
 
 -- the walk at its end: everything is taken in
 module _ (n b a c steps : ℕ) (ha : a < b) (hc : c < 2 ^ n) where
@@ -315,18 +334,27 @@ module _ (n b a c steps : ℕ) (ha : a < b) (hc : c < 2 ^ n) where
             w.plains ∙ ap (no_borrows n b n) all,
           )
 
-  pub cord-accepts : (s : Round) → Walked n b d n s → {carry : Bool} {t : ℕ} → carry ≡ ltb s.tmpc (top n)
-      → t ≡ steps + 6 + 8 * n + s.no_borrow + 2 * (s.tmpc % 2) → answer_of s carry t ≡ cord n b d steps
+  pub cord-accepts : (s : Round) → Walked n b d n s → {quotient remainder compared t : ℕ} {carry : Bool} → quotient ≡ s.tmpc → remainder ≡ s.tmpa
+      → compared ≡ s.compared → carry ≡ not (top_set n quotient) → t ≡ steps + 6 + 8 * n + s.no_borrow + 2 * (quotient % 2)
+      → ◌≡◌ {A = CordAnswer}
+      (record {
+        outcome = accepted (record { quotient = quotient; remainder = remainder });
+        carry = carry;
+        compared = compared;
+        roads = both_roads s.shifted_out s.no_borrow;
+        steps = t;
+      })
+      (cord n b d steps)
   unfolding cord
-  cord-accepts s w {carry} {t} ec et =
+  cord-accepts s w {quotient} {remainder} {compared} {t} {carry} eq er em ec et =
       let f = end s w in
-      let quotient : s.tmpc ≡ d / b = f.0 in
-      let whole : t ≡ steps + cord_steps n b d = et ∙ rw quotient (omega (arith, f.4)) in
+      let q : quotient ≡ d / b = eq ∙ f.0 in
+      let whole : t ≡ steps + cord_steps n b d = et ∙ rw q (omega (arith, f.4)) in
       rw (digits_div a hc, lt-leb b a ha)
       (λ i. record {
-        outcome = accepted (record { quotient = quotient i; remainder = f.1 i });
-        carry = (ec ∙ ap (λ (x : ℕ). ltb x (top n)) quotient) i;
-        compared = f.2 i;
+        outcome = accepted (record { quotient = q i; remainder = (er ∙ f.1) i });
+        carry = (ec ∙ not_leb (top n) quotient ∙ ap (λ (x : ℕ). ltb x (top n)) q) i;
+        compared = (em ∙ f.2) i;
         roads = both_roads (f.3 i) (f.4 i);
         steps = whole i;
       })

@@ -1,55 +1,39 @@
--- The values of each width, read as those of the definitions over n.
+-- The code's values, read as those of the definitions over n; value is what a number of the code stands for.
 -- Assumes nothing.
-use Rattle.std.specs.Prelude.{◌/◌, ◌%◌}
+use Rattle.std.specs.Prelude.{ℕ, ◌/◌, ◌%◌, ◌^◌, Option, Some, None}
 use Rattle.cord.specs.Round.{Round}
 use Rattle.cord.specs.Cord as Cord
-use Rattle.cord.specs.declared.CordRound8.{CordRound8}
-use Rattle.cord.specs.declared.Results8.{Results8}
-use Rattle.cord.specs.declared.CordOutcome8.{CordOutcome8}
-use Rattle.cord.specs.declared.CordOutcome8.TheVariants.{Accepted as CordAccepted8, Refused as CordRefused8}
-use Rattle.cord.specs.declared.CordAnswer8.{CordAnswer8}
-use Rattle.cord.specs.declared.CordRound16.{CordRound16}
-use Rattle.cord.specs.declared.Results16.{Results16}
-use Rattle.cord.specs.declared.CordOutcome16.{CordOutcome16}
-use Rattle.cord.specs.declared.CordOutcome16.TheVariants.{Accepted as CordAccepted16, Refused as CordRefused16}
-use Rattle.cord.specs.declared.CordAnswer16.{CordAnswer16}
+use Rattle.cord.specs.declared.CordRound.{CordRound}
+use Rattle.cord.specs.declared.Roads as Declared
+use Rattle.cord.specs.declared.Results as Results
+use Rattle.cord.specs.declared.CordAnswer as CordAnswer
 
-abbrev pub round8 : CordRound8 → Round
-round8 s = record { tmpa = s.both / 0x100; tmpc = s.both % 0x100; compared = s.compared / 0x100; shifted_out = s.shifted_out; no_borrow = s.no_borrow }
-
-abbrev pub results8 : Results8 → Cord.Results
-results8 r = record { quotient = r.quotient; remainder = r.remainder }
-
-abbrev pub cord_outcome8 : CordOutcome8 → Cord.CordOutcome
-cord_outcome8 (CordAccepted8 r) = Cord.accepted (results8 r)
-cord_outcome8 CordRefused8 = Cord.refused
-
-abbrev pub cord_answer8 : CordAnswer8 → Cord.CordAnswer
-cord_answer8 a =
+abbrev pub round : ℕ → CordRound → Round
+round n s =
     record {
-      outcome = cord_outcome8 a.outcome;
-      carry = a.carry;
-      compared = a.compared;
-      roads = Cord.both_roads a.shifted_out a.no_borrow;
-      steps = a.steps;
+      tmpa = s.both / 2 ^ n;
+      tmpc = s.both % 2 ^ n;
+      compared = s.compared / 2 ^ n;
+      shifted_out = s.shifted_out;
+      no_borrow = s.no_borrow;
     }
 
-abbrev pub round16 : CordRound16 → Round
-round16 s = record { tmpa = s.both / 0x1_0000; tmpc = s.both % 0x1_0000; compared = s.compared / 0x1_0000; shifted_out = s.shifted_out; no_borrow = s.no_borrow }
+abbrev pub roads : Declared.Roads → Cord.Roads
+roads r = Cord.both_roads r.shifted_out r.no_borrow
 
-abbrev pub results16 : Results16 → Cord.Results
-results16 r = record { quotient = r.quotient; remainder = r.remainder }
+abbrev pub results : {N : Type 0} → (N → ℕ) → Results.Results N → Cord.Results
+results value r = record { quotient = value r.quotient; remainder = value r.remainder }
 
-abbrev pub cord_outcome16 : CordOutcome16 → Cord.CordOutcome
-cord_outcome16 (CordAccepted16 r) = Cord.accepted (results16 r)
-cord_outcome16 CordRefused16 = Cord.refused
+abbrev pub cord_outcome : {N : Type 0} → (N → ℕ) → Option (Results.Results N) → Cord.CordOutcome
+cord_outcome value (Some r) = Cord.accepted (results value r)
+cord_outcome value None = Cord.refused
 
-abbrev pub cord_answer16 : CordAnswer16 → Cord.CordAnswer
-cord_answer16 a =
+abbrev pub cord_answer : {N : Type 0} → (N → ℕ) → CordAnswer.CordAnswer N → Cord.CordAnswer
+cord_answer value a =
     record {
-      outcome = cord_outcome16 a.outcome;
+      outcome = cord_outcome value a.outcome;
       carry = a.carry;
-      compared = a.compared;
-      roads = Cord.both_roads a.shifted_out a.no_borrow;
+      compared = value a.compared;
+      roads = roads a.roads;
       steps = a.steps;
     }

@@ -3,188 +3,84 @@
 // complement and inverts it at the end; here the quotient itself is collected.
 #![tactic(auto)]
 
-ghost use Rattle.std.specs.Prelude.{◌≡◌, ◌+◌, ◌*◌, ◌/◌, ◌<◌};
+ghost use Rattle.std.specs.Prelude.{◌≡◌, ◌+◌, ◌*◌, ◌/◌, ◌^◌, ◌<◌};
 ghost use Rattle.cord.specs.Round.{cord_round};
 ghost use Rattle.cord.specs.Cord.{cord};
-ghost use Rattle.cord.specs.Views.{round8, round16, cord_answer8, cord_answer16};
+ghost use Rattle.cord.specs.Views.{round, cord_answer};
 
-use flags::width::{Width8, Width16};
+use flags::number::Number;
 
-// `both` holds the two halves as one number, the upper half on top. `compared` is `both` as it stood in the last
-// compare; its upper half sets the flags. The other two count the ones by each road that makes a one. The steps
-// follow from `no_borrow`.
-#[derive(Drop)]
-pub struct CordRound8 {
-    pub both: u32,
-    pub compared: u32,
+// How many ones of the quotient came by each road that makes a one.
+#[derive(Clone, Copy)]
+pub struct Roads {
     pub shifted_out: u16,
     pub no_borrow: u16,
 }
 
-#[derive(Drop)]
-pub struct Results8 {
-    pub quotient: u8,
-    pub remainder: u8,
-}
-
-#[derive(Drop)]
-pub enum CordOutcome8 {
-    Accepted(Results8),
-    Refused,
-}
-
-// Accepted or refused, CORD returns C, the left side of the last compare, the ones by each road and the steps.
-#[derive(Drop)]
-pub struct CordAnswer8 {
-    pub outcome: CordOutcome8,
-    pub carry: bool,
-    pub compared: u8,
-    pub shifted_out: u16,
-    pub no_borrow: u16,
-    pub steps: u16,
-}
-
-// One round, by one of three roads: a bit shifted out, no borrow, borrow. `with_one` is the shifted number with the
-// quotient's one already in it, so the subtraction does not wait for that bit.
-fn cord_round8(from: CordRound8, tmpb: u8) -> CordRound8
-    requires { (from.both / 0x100 < tmpb) × (from.shifted_out < 100) × (from.no_borrow < 100) }
-    ensures { round8 result ≡ cord_round 8 tmpb (round8 from) }
-{
-    let divisor = tmpb as u32 * 0x100;
-    let shifted = from.both * 2;
-    let with_one = shifted + 1;
-    if 0x1_0000 <= shifted {
-        return CordRound8 {
-            both: with_one - divisor,
-            compared: from.compared,
-            shifted_out: from.shifted_out + 1,
-            no_borrow: from.no_borrow,
-        };
-    }
-    if divisor <= shifted {
-        CordRound8 {
-            both: with_one - divisor,
-            compared: shifted,
-            shifted_out: from.shifted_out,
-            no_borrow: from.no_borrow + 1,
-        }
-    } else {
-        CordRound8 {
-            both: shifted,
-            compared: shifted,
-            shifted_out: from.shifted_out,
-            no_borrow: from.no_borrow,
-        }
-    }
-}
-
-// The quotient fits its half exactly if the upper half is below the divisor, so one compare decides. If it fits,
-// there are 3 steps before the rounds, 7 in each, 1 for each jump back and 4 at the end: 6, and 8 a round.
-// A one by no borrow takes 1 more, and an odd quotient 2.
-pub fn cord8(tmpa: u8, tmpb: u8, tmpc: u8, steps: u16) -> CordAnswer8
-    requires { steps < 100 }
-    ensures { cord_answer8 result ≡ cord 8 tmpb (tmpa * 0x100 + tmpc) steps }
-{
-    if tmpb <= tmpa {
-        return CordAnswer8 {
-            outcome: CordOutcome8::Refused,
-            carry: false,
-            compared: tmpa,
-            shifted_out: 0,
-            no_borrow: 0,
-            steps: steps + 4,
-        };
-    }
-    let whole = tmpa as u32 * 0x100 + tmpc as u32;
-    let mut at = CordRound8 {
-        both: whole,
-        compared: whole,
+impl Roads {
+    // Where there is no quotient, or no round yet. The name is that of the definition, `no_roads`.
+    pub const NONE: Roads = Roads {
         shifted_out: 0,
         no_borrow: 0,
     };
-    let mut internal_counter = Width8::BITS;
-    while internal_counter != 0 {
-        at = cord_round8(at, tmpb);
-        internal_counter -= 1;
-    }
-    let quotient = (at.both % 0x100) as u8;
-    CordAnswer8 {
-        outcome: CordOutcome8::Accepted(Results8 {
-            quotient,
-            remainder: (at.both / 0x100) as u8,
-        }),
-        carry: quotient & Width8::TOP == 0,
-        compared: (at.compared / 0x100) as u8,
-        shifted_out: at.shifted_out,
-        no_borrow: at.no_borrow,
-        steps: steps + 6 + 8 * Width8::BITS as u16 + at.no_borrow + 2 * (quotient & 1) as u16,
-    }
 }
 
 // `both` holds the two halves as one number, the upper half on top. `compared` is `both` as it stood in the last
-// compare; its upper half sets the flags. The other two count the ones by each road that makes a one. The steps
-// follow from `no_borrow`.
-#[derive(Drop)]
-pub struct CordRound16 {
+// compare; its upper half sets the flags. The steps follow from the ones by no borrow. The two counts stand by
+// themselves here: as one `Roads` in each round they cost CORD 4 parts in 10 more time at 16 bits.
+#[derive(Clone, Copy)]
+pub struct CordRound {
     pub both: u64,
     pub compared: u64,
     pub shifted_out: u16,
     pub no_borrow: u16,
 }
 
-#[derive(Drop)]
-pub struct Results16 {
-    pub quotient: u16,
-    pub remainder: u16,
+#[derive(Clone, Copy)]
+pub struct Results<N> {
+    pub quotient: N,
+    pub remainder: N,
 }
 
-#[derive(Drop)]
-pub enum CordOutcome16 {
-    Accepted(Results16),
-    Refused,
-}
-
-// Accepted or refused, CORD returns C, the left side of the last compare, the ones by each road and the steps.
-#[derive(Drop)]
-pub struct CordAnswer16 {
-    pub outcome: CordOutcome16,
+// Accepted, with its results, or refused, CORD returns C, the left side of the last compare, the ones by each road
+// and the steps.
+#[derive(Clone, Copy)]
+pub struct CordAnswer<N> {
+    pub outcome: Option<Results<N>>,
     pub carry: bool,
-    pub compared: u16,
-    pub shifted_out: u16,
-    pub no_borrow: u16,
+    pub compared: N,
+    pub roads: Roads,
     pub steps: u16,
 }
 
 // One round, by one of three roads: a bit shifted out, no borrow, borrow. `with_one` is the shifted number with the
 // quotient's one already in it, so the subtraction does not wait for that bit.
-fn cord_round16(from: CordRound16, tmpb: u16) -> CordRound16
-    requires { (from.both / 0x1_0000 < tmpb) × (from.shifted_out < 100) × (from.no_borrow < 100) }
-    ensures { round16 result ≡ cord_round 16 tmpb (round16 from) }
+fn cord_round<N: Number>(from: CordRound, tmpb: N) -> CordRound
+    requires { (from.both / 2 ^ N.BITS < N.value tmpb) × (from.shifted_out < 100) × (from.no_borrow < 100) }
+    ensures { round N.BITS result ≡ cord_round N.BITS (N.value tmpb) (round N.BITS from) }
 {
-    let divisor = tmpb as u64 * 0x1_0000;
+    let divisor = (tmpb.wide() as u64) << N::BITS;
     let shifted = from.both * 2;
     let with_one = shifted + 1;
-    if 0x1_0000_0000 <= shifted {
-        return CordRound16 {
+    if 1 << (2 * N::BITS) <= shifted {
+        return CordRound {
             both: with_one - divisor,
-            compared: from.compared,
             shifted_out: from.shifted_out + 1,
-            no_borrow: from.no_borrow,
+            ..from
         };
     }
     if divisor <= shifted {
-        CordRound16 {
+        CordRound {
             both: with_one - divisor,
             compared: shifted,
-            shifted_out: from.shifted_out,
             no_borrow: from.no_borrow + 1,
+            ..from
         }
     } else {
-        CordRound16 {
+        CordRound {
             both: shifted,
             compared: shifted,
-            shifted_out: from.shifted_out,
-            no_borrow: from.no_borrow,
+            ..from
         }
     }
 }
@@ -192,42 +88,42 @@ fn cord_round16(from: CordRound16, tmpb: u16) -> CordRound16
 // The quotient fits its half exactly if the upper half is below the divisor, so one compare decides. If it fits,
 // there are 3 steps before the rounds, 7 in each, 1 for each jump back and 4 at the end: 6, and 8 a round.
 // A one by no borrow takes 1 more, and an odd quotient 2.
-pub fn cord16(tmpa: u16, tmpb: u16, tmpc: u16, steps: u16) -> CordAnswer16
+pub fn cord<N: Number>(tmpa: N, tmpb: N, tmpc: N, steps: u16) -> CordAnswer<N>
     requires { steps < 100 }
-    ensures { cord_answer16 result ≡ cord 16 tmpb (tmpa * 0x1_0000 + tmpc) steps }
+    ensures { cord_answer N.value result ≡ cord N.BITS (N.value tmpb) (N.value tmpa * 2 ^ N.BITS + N.value tmpc) steps }
 {
-    if tmpb <= tmpa {
-        return CordAnswer16 {
-            outcome: CordOutcome16::Refused,
+    let whole = ((tmpa.wide() as u64) << N::BITS) + tmpc.wide() as u64;
+    if tmpb.wide() <= tmpa.wide() {
+        return CordAnswer {
+            outcome: None,
             carry: false,
             compared: tmpa,
-            shifted_out: 0,
-            no_borrow: 0,
+            roads: Roads::NONE,
             steps: steps + 4,
         };
     }
-    let whole = tmpa as u64 * 0x1_0000 + tmpc as u64;
-    let mut at = CordRound16 {
+    let mut at = CordRound {
         both: whole,
         compared: whole,
         shifted_out: 0,
         no_borrow: 0,
     };
-    let mut internal_counter = Width16::BITS;
-    while internal_counter != 0 {
-        at = cord_round16(at, tmpb);
-        internal_counter -= 1;
+    for _ in 0..N::BITS {
+        at = cord_round(at, tmpb);
     }
-    let quotient = (at.both % 0x1_0000) as u16;
-    CordAnswer16 {
-        outcome: CordOutcome16::Accepted(Results16 {
+    let quotient = N::cut(at.both as u32);
+    let remainder = N::cut((at.both >> N::BITS) as u32);
+    CordAnswer {
+        outcome: Some(Results {
             quotient,
-            remainder: (at.both / 0x1_0000) as u16,
+            remainder,
         }),
-        carry: quotient & Width16::TOP == 0,
-        compared: (at.compared / 0x1_0000) as u16,
-        shifted_out: at.shifted_out,
-        no_borrow: at.no_borrow,
-        steps: steps + 6 + 8 * Width16::BITS as u16 + at.no_borrow + 2 * (quotient & 1),
+        carry: !quotient.top_set(),
+        compared: N::cut((at.compared >> N::BITS) as u32),
+        roads: Roads {
+            shifted_out: at.shifted_out,
+            no_borrow: at.no_borrow,
+        },
+        steps: steps + 6 + 8 * N::BITS as u16 + at.no_borrow + 2 * (quotient.wide() & 1) as u16,
     }
 }

@@ -1,11 +1,11 @@
 -- CORX over the width n: its rounds multiply exactly, whatever carry enters, in the steps that the definition counts.
 -- Assumes nothing.
-use mathlib.Core.{Path.◌≡◌, Path.refl, Path.sym, Path.ap, Path.ap₂, Path.subst, Path.◌∙◌, Bool.Bool}
+use mathlib.Core.{Path.◌≡◌, Path.refl, Path.sym, Path.ap, Path.ap₂, Path.◌∙◌, Bool.Bool, Bool.true, Bool.false}
 use Prim.Native.Nat.{ℕ, zero, suc, ◌+◌, ◌*◌, ◌/◌, ◌%◌, ◌^◌, ◌≤◌, ◌<◌}
-use native.Mathlib.{Nat.pow-suc, Nat.mod-lt, Nat.div-add-mod', Nat.le_of_lt, Nat.mul-le-mul_left, Numerals.add-one, Omega.arith}
-use lib.{Pow.pow_mono, Arith.digits_lt, Arith.digits_mod, Count.ones, Count.ones_cat, Count.ones-le, Dec.lit<}
+use native.Mathlib.{Nat.pow-suc, Nat.mod-lt, Nat.mod-eq_of_lt, Nat.div-add-mod', Nat.div-lt_iff_lt-mul, Nat.le_of_lt, Nat.mul-le-mul_left, Numerals.add-one, Omega.arith}
+use lib.{Pow.pow_mono, Pow.pow_pos, Pow.pow-add, Arith.digits_lt, Arith.digits_mod, Count.ones, Count.ones_cat, Count.ones-le, Dec.lit<}
 use Rattle.numbers.specs.Numbers.{bit}
-use Rattle.numbers.proofs.Powers.{product_lt}
+use Rattle.numbers.proofs.{Powers.product_lt, Widths.Width, Widths.most_bits}
 use Rattle.corx.specs.{Corx.Halves, Corx.corx, InPlace.add_round, declared.AddRound.AddRound}
 
 -- a round adds at most the addend
@@ -36,6 +36,15 @@ pub record Walked (b m start k : ℕ) (s : AddRound) : Type 0 where
 pub begins : (b m start : ℕ) → Walked b m start 0 (record { product = 0; addend = b; multiplier = m; steps = start + 2 })
 unfolding ones
 begins b m start = record { q = 0; whole = omega arith; used = omega arith; moved = omega arith; made = omega arith; paid = omega arith }
+
+-- as the code begins: the carry is shifted above the multiplier, and 32 bits hold it there
+pub begins_as : (n b c : ℕ) (carry : Bool) (start : ℕ) → Width n → {a m : ℕ} → a ≡ b → m ≡ bit carry * 2 ^ n % 0x1_0000_0000 + c
+    → Walked b (multiplier n c carry) start 0 (record { product = 0; addend = a; multiplier = m; steps = start + 2 })
+begins_as n b c carry start width ea em = rw (ea, em ∙ ap (λ (x : ℕ). x + c) (above carry)) (begins b (multiplier n c carry) start)
+  where
+    above : (k : Bool) → bit k * 2 ^ n % 0x1_0000_0000 ≡ bit k * 2 ^ n
+    above true = let most = pow_mono (most_bits n width) in mod-eq_of_lt (omega (arith, most))
+    above false = omega arith
 
 -- a round more, with the jump back
 abbrev pub jumped : AddRound → AddRound
@@ -69,37 +78,39 @@ module _ (b m start k : ℕ) (s : AddRound) {r : AddRound} (er : r ≡ add_round
       twok = pow-suc 2 k
 
 -- the steps at each place are few
-pub few_steps : (b m start k : ℕ) (s : AddRound) → Walked b m start k s → k ≤ 16 → start < 1000 → s.steps < 1200
+few_steps : (b m start k : ℕ) (s : AddRound) → Walked b m start k s → k ≤ 16 → start < 1000 → s.steps < 1200
 few_steps b m start k s w hk hs = omega (arith, w.paid, ones-le k w.q w.used)
 
--- and so are those after a round more, with its jump
-pub few_after : (b m start k : ℕ) (s : AddRound) {r : AddRound} → r ≡ add_round s → Walked b m start k s → k ≤ 15 → start < 1000 → r.steps + 1 < 1200
-few_after b m start k s {r = r} er w hk hs = few_steps b m start (k + 1) (jumped r) (next b m start k s er w) (omega arith) hs
+-- before the last of n rounds
+module _ (n b m start k : ℕ) (s : AddRound) (w : Walked b m start k s) (width : Width n) (more : k < n) (hs : start < 1000) where
+  -- the steps are few after a round more too, with its jump
+  pub few_after : {r : AddRound} → r ≡ add_round s → r.steps + 1 < 1200
+  few_after {r} er = few_steps b m start (k + 1) (jumped r) (next b m start k s er w) (omega (arith, most_bits n width)) hs
 
--- what a round asks for
-pub ready : (b m start k : ℕ) (s : AddRound) → Walked b m start k s → b < 2 ^ 16 → k ≤ 15 → start < 1000 → (s.product < 2 ^ 31) × (s.addend < 2 ^ 31) × (s.steps < 2000)
-ready b m start k s w hb hk hs =
-    let most = mul-le-mul_left b (pow_mono hk) in
-    let part = mul-le-mul_left b (le_of_lt w.used) in
-    (omega (arith, w.made), omega (arith, w.moved), omega (arith, few_steps b m start k s w (omega arith) hs))
+  -- what a round asks for
+  pub ready : b < 2 ^ n → (s.product < 2 ^ 31) × (s.addend < 2 ^ 31) × (s.steps < 2000)
+  ready hb =
+      let hn = most_bits n width in
+      let most = mul-le-mul_left b ((let few : k ≤ 15 = omega arith in pow_mono few)) in
+      let part = mul-le-mul_left b (le_of_lt w.used) in
+      let wide = pow_mono hn in
+      (omega (arith, w.made), omega (arith, w.moved), omega (arith, few_steps b m start k s w (omega arith) hs))
 
--- the last round has no jump back
-module _ (n b c : ℕ) (carry : Bool) (start k : ℕ) (s : AddRound) {r : AddRound} (er : r ≡ add_round s) (w : Walked b (multiplier n c carry) start k s) (e : k + 1 ≡ n) (hc : c < 2 ^ n) where
-  last : Walked b (multiplier n c carry) start n (jumped r)
-  last = subst (λ (x : ℕ). Walked b (multiplier n c carry) start x (jumped r)) e (next b (multiplier n c carry) start k s er w)
+-- after all n rounds the product is whole
+module _ (n b c : ℕ) (carry : Bool) (start : ℕ) (s : AddRound) (w : Walked b (multiplier n c carry) start n s) (hb : b < 2 ^ n) (hc : c < 2 ^ n) where
+  all : w.q ≡ c
+  all = sym (digits_mod s.multiplier w.used) ∙ ap (λ (x : ℕ). x % 2 ^ n) (sym w.whole) ∙ digits_mod (bit carry) hc
 
-  all : last.q ≡ c
-  all = sym (digits_mod r.multiplier last.used) ∙ ap (λ (x : ℕ). x % 2 ^ n) (sym last.whole) ∙ digits_mod (bit carry) hc
+  exact : s.product ≡ b * c
+  exact = w.made ∙ ap (λ (x : ℕ). b * x) all
 
-  exact : r.product ≡ b * c
-  exact = last.made ∙ ap (λ (x : ℕ). b * x) all
-
-  -- and so its halves fit
-  pub two_halves : b < 2 ^ n → r.product < 2 ^ (n + n)
-  two_halves hb = omega (arith, exact, product_lt n hb hc)
-
-  pub ends : ◌≡◌ {A = Halves} (record { tmpa = r.product / 2 ^ n; tmpc = r.product % 2 ^ n; steps = r.steps + 2 }) (corx n b c start)
+  -- its upper half fits; the last round, which makes no jump back, is followed by 2 steps
+  pub ends : {upper lower t : ℕ} → upper ≡ s.product / 2 ^ n % 2 ^ n → lower ≡ s.product % 2 ^ n
+      → t ≡ s.steps + 1 → ◌≡◌ {A = Halves} (record { tmpa = upper; tmpc = lower; steps = t }) (corx n b c start)
   unfolding corx
-  ends =
-      let paid : r.steps + 2 ≡ start + (3 + 6 * n + ones c) = omega (arith, last.paid, ap ones all) in
-      λ i. record { tmpa = exact i / 2 ^ n; tmpc = exact i % 2 ^ n; steps = paid i }
+  ends {t = t} eu el et =
+      let paid : t ≡ start + (3 + 6 * n + ones c) = omega (arith, et, w.paid, ap ones all) in
+      let fits : b * c / 2 ^ n < 2 ^ n = (div-lt_iff_lt-mul (pow_pos n)).1 (omega (arith, pow-add 2 n n, product_lt n hb hc)) in
+      let above = eu ∙ ap (λ (x : ℕ). x / 2 ^ n % 2 ^ n) exact ∙ mod-eq_of_lt fits in
+      let below = el ∙ ap (λ (x : ℕ). x % 2 ^ n) exact in
+      λ i. record { tmpa = above i; tmpc = below i; steps = paid i }

@@ -6,27 +6,21 @@
 ghost use Rattle.std.specs.Prelude.{◌≡◌, ◌<◌};
 ghost use Rattle.corx.specs.Corx.{corx};
 ghost use Rattle.corx.specs.InPlace.{add_round};
-ghost use Rattle.corx.specs.Views.{halves8, halves16};
+ghost use Rattle.corx.specs.Views.{halves};
 
-use flags::width::{Width8, Width16};
+use flags::number::Number;
 
-#[derive(Drop)]
-pub struct Halves8 {
-    pub tmpa: u8,
-    pub tmpc: u8,
-    pub steps: u16,
-}
-
-#[derive(Drop)]
-pub struct Halves16 {
-    pub tmpa: u16,
-    pub tmpc: u16,
+// The product: tmpa above, tmpc below.
+#[derive(Clone, Copy)]
+pub struct Halves<N> {
+    pub tmpa: N,
+    pub tmpc: N,
     pub steps: u16,
 }
 
 // The product so far, the addend of the next round, and the bits of the multiplier that are left. 32 bits hold them
 // at either width.
-#[derive(Drop)]
+#[derive(Clone, Copy)]
 pub struct AddRound {
     pub product: u32,
     pub addend: u32,
@@ -50,51 +44,24 @@ fn corx_round(from: AddRound) -> AddRound
 }
 
 // The last round leaves the loop before the jump back. The carry enters above the multiplier's top bit, and no
-// round reaches it there.
-pub fn corx8(tmpb: u8, tmpc: u8, carry: bool, steps: u16) -> Halves8
+// round reaches it there. A loop that yields by `break`, and no `for`: docs/DECISIONS.md, 'Forms'.
+pub fn corx<N: Number>(tmpb: N, tmpc: N, carry: bool, steps: u16) -> Halves<N>
     requires { steps < 1000 }
-    ensures { halves8 result ≡ corx 8 tmpb tmpc steps }
+    ensures { halves N.value result ≡ corx N.BITS (N.value tmpb) (N.value tmpc) steps }
 {
     let mut at = AddRound {
         product: 0,
-        addend: tmpb as u32,
-        multiplier: carry as u32 * 0x100 + tmpc as u32,
+        addend: tmpb.wide(),
+        multiplier: ((carry as u32) << N::BITS) + tmpc.wide(),
         steps: steps + 2,
     };
-    let mut internal_counter = Width8::BITS - 1;
+    let mut internal_counter = N::BITS - 1;
     loop {
         at = corx_round(at);
         if internal_counter == 0 {
-            break Halves8 {
-                tmpa: (at.product / 0x100) as u8,
-                tmpc: (at.product % 0x100) as u8,
-                steps: at.steps + 2,
-            };
-        }
-        internal_counter -= 1;
-        at.steps += 1;
-    }
-}
-
-// The last round leaves the loop before the jump back. The carry enters above the multiplier's top bit, and no
-// round reaches it there.
-pub fn corx16(tmpb: u16, tmpc: u16, carry: bool, steps: u16) -> Halves16
-    requires { steps < 1000 }
-    ensures { halves16 result ≡ corx 16 tmpb tmpc steps }
-{
-    let mut at = AddRound {
-        product: 0,
-        addend: tmpb as u32,
-        multiplier: carry as u32 * 0x1_0000 + tmpc as u32,
-        steps: steps + 2,
-    };
-    let mut internal_counter = Width16::BITS - 1;
-    loop {
-        at = corx_round(at);
-        if internal_counter == 0 {
-            break Halves16 {
-                tmpa: (at.product / 0x1_0000) as u16,
-                tmpc: (at.product % 0x1_0000) as u16,
+            break Halves {
+                tmpa: N::cut(at.product >> N::BITS),
+                tmpc: N::cut(at.product),
                 steps: at.steps + 2,
             };
         }

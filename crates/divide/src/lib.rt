@@ -1,4 +1,4 @@
-// Divide, after cpu_808x/muldiv.rs of MartyPC: PREIDIV and POSTIDIV around CORD, then div8 and div16.
+// Divide, after cpu_808x/muldiv.rs of MartyPC: PREIDIV and POSTIDIV around CORD, then div.
 // Flags and steps go in and come out by value; a refusal is a value too, and no trap.
 #![tactic(auto)]
 

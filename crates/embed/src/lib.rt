@@ -18,17 +18,16 @@ ghost use Rattle.readback.specs.Judge.{read_back};
 ghost use Rattle.readback.specs.Told.{status_of as readStatus, record_left, turn, turn_at};
 
 use answer::ask;
-use flags::parity;
 use line::{one, run};
 use packed::{string, told};
 use registers::by_number;
+use registers::record::Registers;
 
 // The table of statuses from 3 on. The answer's flags, steps, R and S go in, in this order.
 pub fn hatchyarn_ask(op: u8, mode: u8, flags: u16, x: u32, y: u16, answer: &mut [u16; 4]) -> u8
     ensures { (result ≡ status_of op mode flags x y) × (answer.new ≡ parts_of op mode flags x y) }
 {
-    let parity = parity::parity_table();
-    ask::ask_into(op, mode, flags, x, y, &parity, answer)
+    ask::ask_into(op, mode, flags, x, y, answer)
 }
 
 // Whether the divide of mode, dividend and divisor would trap goes into `trap`, as 0 or 1; returns 0. What
@@ -36,7 +35,7 @@ pub fn hatchyarn_ask(op: u8, mode: u8, flags: u16, x: u32, y: u16, answer: &mut 
 pub fn hatchyarn_would_trap(mode: u8, dividend: u32, divisor: u16, trap: &mut u8) -> u8
     ensures { trap_told result trap.new ≡ would_trap mode dividend divisor }
 {
-    trap::would_trap(mode, dividend, divisor, trap)
+    trap::told::tell(trap::would_trap(mode, dividend, divisor), trap)
 }
 
 // By which roads the ones of a divide's quotient came: how many by a bit shifted out, then how many by no
@@ -44,7 +43,7 @@ pub fn hatchyarn_would_trap(mode: u8, dividend: u32, divisor: u16, trap: &mut u8
 pub fn hatchyarn_roads(mode: u8, dividend: u32, divisor: u16, roads: &mut [u16; 2]) -> u8
     ensures { tallied result roads.new ≡ roads_told mode dividend divisor }
 {
-    roads::roads(mode, dividend, divisor, roads)
+    roads::told::tell(roads::roads(mode, dividend, divisor), roads)
 }
 
 // An operation over AX, DX, the flags and the total of steps, which it changes in place; its steps go into
@@ -62,7 +61,19 @@ pub fn hatchyarn_registers(
 ) -> u8
     ensures { settled_as result steps.new (registers_of ax.new dx.new flags.new total.new) ≡ over op mode y (registers_of ax.old dx.old flags.old total.old) }
 {
-    by_number::operate(op, mode, y, ax, dx, flags, total, steps)
+    let regs = Registers {
+        ax: *ax,
+        dx: *dx,
+        flags: *flags,
+        total: *total,
+    };
+    let settled = by_number::operate(op, mode, y, regs);
+    *ax = settled.regs.ax;
+    *dx = settled.regs.dx;
+    *flags = settled.regs.flags;
+    *total = settled.regs.total;
+    *steps = settled.steps;
+    settled.status
 }
 
 // One line without its line feed: the whole table.

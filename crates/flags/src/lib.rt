@@ -1,7 +1,7 @@
-// The ground of the 8088's arithmetic: the flags word, the parity table, and the two widths.
+// The ground of the 8088's arithmetic: numbers of 8 and 16 bits, the flags word, and P.
 // Everything above takes these by value; nothing here knows an operation.
 #![tactic(auto)]
 
+pub mod number;
 pub mod parity;
-pub mod width;
 pub mod word;

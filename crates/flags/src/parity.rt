@@ -1,10 +1,8 @@
 // P of a byte: whether it holds an even number of ones, read from a table of 1 and 0.
-// The language has no static memory, so a constant table is built anew wherever it is indexed. It is
-// therefore built once for an operation that asks for P, and lent to everything below.
 ghost use Rattle.std.specs.Prelude.{◌≡◌};
 ghost use Rattle.flags.specs.Parity.{ParityTable, even_ones};
 
-const PARITY_TABLE: [u8; 256] = [
+static PARITY_TABLE: [u8; 256] = [
     // 00
     1, 0, 0, 1, 0, 1, 1, 0, 0, 1, 1, 0, 1, 0, 0, 1,
     // 10
@@ -40,15 +38,14 @@ const PARITY_TABLE: [u8; 256] = [
     1, 0, 0, 1, 0, 1, 1, 0, 0, 1, 1, 0, 1, 0, 0, 1,
 ];
 
-pub fn parity_table() -> [u8; 256]
-    ensures { ParityTable result }
+fn parity_table() -> &'static [u8; 256]
+    ensures { ParityTable result.now }
 {
-    PARITY_TABLE
+    &PARITY_TABLE
 }
 
-pub fn parity(table: &[u8; 256], byte: u8) -> bool
-    requires { ParityTable table.now }
+pub fn parity(byte: u8) -> bool
     ensures { result ≡ even_ones byte }
 {
-    table[byte as usize] != 0
+    parity_table()[byte as usize] != 0
 }

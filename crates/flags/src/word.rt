@@ -1,6 +1,10 @@
 // The flags word, taken apart into a record of its six flags and put together again.
 ghost use Rattle.std.specs.Prelude.{◌≡◌};
+ghost use Rattle.flags.specs.Szp.{szp};
 ghost use Rattle.flags.specs.Word.{flags_of, word_of, is_flags, set_c, set_co, set_coa};
+
+use crate::number::Number;
+use crate::parity;
 
 #[derive(Clone, Copy)]
 pub struct Flags {
@@ -25,7 +29,7 @@ impl Flags {
 
     pub const OVERFLOW: u16 = 0x0800;
 
-    // The flags of a word. A bit that is no flag is passed over.
+    // The flags of a word. A bit that is no flag is passed over: a `From` would not say that something is lost.
     pub fn from_word(word: u16) -> Flags
         ensures { result ≡ flags_of word }
     {
@@ -39,37 +43,18 @@ impl Flags {
         }
     }
 
-    // The word of the flags, from the highest down: each shift makes room for the next flag.
-    pub fn to_word(self) -> u16
-        ensures { result ≡ word_of self }
-    {
-        let mut word = self.overflow as u16;
-        word = (word << 4) | self.sign as u16;
-        word = (word << 1) | self.zero as u16;
-        word = (word << 2) | self.aux_carry as u16;
-        word = (word << 2) | self.parity as u16;
-        (word << 2) | self.carry as u16
-    }
-
     // Whether every bit of the word is a flag: such a word comes back from being taken apart.
     pub fn is_flags(word: u16) -> bool
         ensures { result ≡ is_flags word }
     {
-        Flags::from_word(word).to_word() == word
+        u16::from(Flags::from_word(word)) == word
     }
 
     // What an operation that names C alone leaves: the other five as handed in.
     pub fn with_c(self, carry: bool) -> Flags
         ensures { result ≡ set_c carry self }
     {
-        Flags {
-            carry,
-            parity: self.parity,
-            aux_carry: self.aux_carry,
-            zero: self.zero,
-            sign: self.sign,
-            overflow: self.overflow,
-        }
+        Flags { carry, ..self }
     }
 
     // What an operation that names C and O leaves.
@@ -78,11 +63,8 @@ impl Flags {
     {
         Flags {
             carry,
-            parity: self.parity,
-            aux_carry: self.aux_carry,
-            zero: self.zero,
-            sign: self.sign,
             overflow,
+            ..self
         }
     }
 
@@ -92,11 +74,36 @@ impl Flags {
     {
         Flags {
             carry,
-            parity: self.parity,
-            aux_carry,
-            zero: self.zero,
-            sign: self.sign,
             overflow,
+            aux_carry,
+            ..self
         }
+    }
+
+    // What S, Z and P say of a result. P reads its low eight bits at either width.
+    pub fn set_szp_flags_from_result<N: Number>(self, res: N) -> Flags
+        ensures { result ≡ szp N.BITS (N.value res) self }
+    {
+        let wide = res.wide();
+        Flags {
+            parity: parity::parity((wide & 0xFF) as u8),
+            zero: wide == 0,
+            sign: res.top_set(),
+            ..self
+        }
+    }
+}
+
+// The word of the flags, from the highest down: each shift makes room for the next flag.
+impl From<Flags> for u16 {
+    fn from(flags: Flags) -> u16
+        ensures { result ≡ word_of flags }
+    {
+        let mut word = flags.overflow as u16;
+        word = (word << 4) | flags.sign as u16;
+        word = (word << 1) | flags.zero as u16;
+        word = (word << 2) | flags.aux_carry as u16;
+        word = (word << 2) | flags.parity as u16;
+        (word << 2) | flags.carry as u16
     }
 }

@@ -3,122 +3,86 @@
 ghost use Rattle.std.specs.Prelude.{◌≤◌, length};
 
 use crate::block;
-use program::{Program, input, options, output};
-use std::env::FillError;
+use program::{Failed, Program, options};
 use std::io;
+use std::io::Read;
 use std::rt::{Env, Files};
 
 // Linux's ENAMETOOLONG, of a name that is longer than the system's paths.
 const NAME_TOO_LONG: i32 = 36;
 
-fn answer_standard_input(program: &Program, buffer: &mut [u8], room: &mut [u8]) -> bool
-    requires in_bounds { 32 ≤ length buffer.old }
-    requires in_bounds_2 { 19 ≤ length room.old }
-{
-    let mut input = program.input;
-    block::answer_input(program, b"standard input", &mut input, buffer, room)
+// What every input is answered with: the program, and room for a block of the input and for its answers.
+#[derive(Drop)]
+struct Answerer<'a> {
+    program: &'a Program<'a>,
+    block: [u8; 65536],
+    answers: [u8; 62244],
 }
 
-fn answer_file(
-    files: &impl Files,
-    program: &Program,
-    path: &[u8],
-    buffer: &mut [u8],
-    room: &mut [u8],
-) -> bool
-    requires in_bounds { 32 ≤ length buffer.old }
-    requires in_bounds_2 { 19 ≤ length room.old }
-{
-    if path.len() == 1 {
-        if path[0] == b'-' {
-            return answer_standard_input(program, buffer, room);
+impl Answerer<'_> {
+    fn answer_input<I: Read>(&mut self, name: &[u8], input: &mut I) -> Result<(), Failed> {
+        block::answer_input(
+            self.program,
+            name,
+            input,
+            &mut self.block,
+            &mut self.answers,
+        )
+    }
+
+    fn answer_standard_input(&mut self) -> Result<(), Failed> {
+        let mut input = self.program.input;
+        self.answer_input(b"standard input", &mut input)
+    }
+
+    fn answer_file(&mut self, files: &impl Files, path: &[u8]) -> Result<(), Failed> {
+        match path {
+            b"-" => self.answer_standard_input(),
+            _ => {
+                let mut file = self.program.open(files, path)?;
+                self.answer_input(path, &mut file)
+            }
         }
     }
-    match input::open(files, program, path) {
-        Some(mut file) => block::answer_input(program, path, &mut file, buffer, room),
-        None => false,
+
+    // Answers the file that argument i names.
+    fn answer_argument<R: Env + Files>(&mut self, rt: &R, i: usize) -> Result<(), Failed> {
+        let mut path = [0u8; 4096];
+        match options::argument(rt, i, &mut path) {
+            Ok(path) => self.answer_file(rt, path),
+            Err(_) => Err(too_long(self.program, &path)),
+        }
     }
 }
 
-// Says that an argument, whose start fills the path, is too long to name a file. It is shown cut.
-fn too_long(program: &Program, path: &mut [u8])
-    requires { 63 ≤ length path.old }
+// Says that an argument, which starts as the path does, is too long to name a file. It is shown cut.
+fn too_long(program: &Program, path: &[u8]) -> Failed
+    requires { 60 ≤ length path.now }
 {
-    path[60] = b'.';
-    path[61] = b'.';
-    path[62] = b'.';
-    output::fail(
+    let mut shown = [b'.'; 63];
+    shown[..60].copy_from_slice(&path[..60]);
+    program.fail(&shown, io::Error::from_raw_os_error(NAME_TOO_LONG))
+}
+
+// Answers all inputs. The argument at `end` is the word that ends the options, and names none.
+pub fn answer_files<R: Env + Files>(
+    rt: &R,
+    program: &Program,
+    end: Option<usize>,
+) -> Result<(), Failed> {
+    let mut answerer = Answerer {
         program,
-        &path[..63],
-        io::Error::from_raw_os_error(NAME_TOO_LONG),
-    );
-}
-
-// Answers the file that argument i names; the one at `end` names none. A name that does not fit the room
-// of a path is shown cut.
-fn answer_argument<R: Env + Files>(
-    rt: &R,
-    program: &Program,
-    i: usize,
-    end: usize,
-    buffer: &mut [u8],
-    room: &mut [u8],
-) -> bool
-    requires in_bounds { 32 ≤ length buffer.old }
-    requires in_bounds_2 { 19 ≤ length room.old }
-{
-    if i == end {
-        return true;
-    }
-    let mut path = [0u8; 4096];
-    match rt.arg(i, &mut path) {
-        Ok(n) => answer_file(rt, program, &path[..n], buffer, room),
-        Err(_) => {
-            too_long(program, &mut path);
-            false
-        }
-    }
-}
-
-fn answer_arguments<R: Env + Files>(
-    rt: &R,
-    program: &Program,
-    count: usize,
-    end: usize,
-    buffer: &mut [u8],
-    room: &mut [u8],
-) -> bool
-    requires in_bounds { 32 ≤ length buffer.old }
-    requires in_bounds_2 { 19 ≤ length room.old }
-{
-    let mut i = 1;
-    while i < count {
-        if !answer_argument(rt, program, i, end, buffer, room) {
-            return false;
-        }
-        i += 1;
-    }
-    true
-}
-
-// Whether the arguments name no file: the program's own name and the word at `end` are none.
-fn none_named(count: usize, end: usize) -> bool {
-    if count > 2 {
-        return false;
-    }
-    if count < 2 {
-        return true;
-    }
-    end == 1
-}
-
-// Whether all inputs were read and answered.
-pub fn answer_files<R: Env + Files>(rt: &R, program: &Program, end: usize) -> bool {
-    let mut buffer = [0u8; 65536];
-    let mut room = [0u8; 62244];
+        block: [0; 65536],
+        answers: [0; 62244],
+    };
     let count = options::count(rt);
-    if none_named(count, end) {
-        return answer_standard_input(program, &mut buffer, &mut room);
+    if (1..count).all(|i| end == Some(i)) {
+        return answerer.answer_standard_input();
     }
-    answer_arguments(rt, program, count, end, &mut buffer, &mut room)
+    for i in 1..count {
+        if end != Some(i) {
+            answerer.answer_argument(rt, i)?;
+        }
+    }
+    Ok(())
 }

@@ -7,8 +7,17 @@ mod files;
 mod help;
 
 use program::options::Asked;
-use program::{Program, options};
+use program::{Failed, Program};
 use std::process::ExitCode;
+use std::rt::{Env, Files};
+
+fn run<R: Env + Files>(rt: &R, program: &Program) -> Result<(), Failed> {
+    match program.asked_for(rt)? {
+        Asked::Help => help::help(program),
+        Asked::Version => help::version(program),
+        Asked::Work(end) => files::answer_files(rt, program, end),
+    }
+}
 
 // The exit status is 0 if everything was read, answered and written, and else 1.
 fn main(rt: HostRuntime) -> ExitCode {
@@ -19,18 +28,8 @@ fn main(rt: HostRuntime) -> ExitCode {
         errors: rt.stderr(),
         memory: rt.alloc(),
     };
-    let done = match options::asked_for(&rt) {
-        Asked::Help => help::help(&program),
-        Asked::Version => help::version(&program),
-        Asked::Unknown(i) => {
-            options::unknown(&rt, &program, i);
-            false
-        }
-        Asked::Work(end) => files::answer_files(&rt, &program, end),
-    };
-    if done {
-        ExitCode::SUCCESS
-    } else {
-        ExitCode::FAILURE
+    match run(&rt, &program) {
+        Ok(()) => ExitCode::SUCCESS,
+        Err(failed) => ExitCode::from(failed),
     }
 }

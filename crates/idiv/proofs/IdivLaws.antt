@@ -1,11 +1,11 @@
 -- PREIDIV and POSTIDIV over the width n, from what the code calls.
 -- Assumes nothing.
-use mathlib.Core.{Path.◌≡◌, Path.sym, Path.ap, Path.ap₂, Path.◌∙◌, Bool.Bool, Bool.true, Bool.false, Bool.not, Bool.cond, Bool.xor}
+use mathlib.Core.{Path.◌≡◌, Path.sym, Path.ap, Path.ap₂, Path.◌∙◌, Bool.Bool, Bool.true, Bool.false, Bool.cond, Bool.xor}
 use Prim.Native.Nat.{ℕ, ◌+◌, ◌*◌, ◌/◌, ◌%◌, ◌^◌, ◌<◌}
 use native.Mathlib.Omega.{arith}
-use lib.{Arith.digits_div, Arith.digits_mod, Bits.bit_and, Dec.eqb}
-use Rattle.numbers.specs.Numbers.{top, top_set, negated}
-use Rattle.numbers.proofs.{Masks.mask_top, Masks.top_masked, Masks.top_unmasked, SignLaws.xor_true, SignLaws.xor_false}
+use lib.{Arith.digits_div, Arith.digits_mod}
+use Rattle.numbers.specs.Numbers.{top_set, negated}
+use Rattle.numbers.proofs.{SignLaws.xor_true, SignLaws.xor_false}
 use Rattle.alu.specs.{Result.ResultCoa, Sum.neg}
 use Rattle.alu.proofs.SumLaws.{neg-result}
 use Rattle.negate.specs.Negate.{Pair, Negate, pair, second, cor_negate}
@@ -16,11 +16,11 @@ abbrev later : Pair → ℕ → Pair
 later p k = record { tmpa = p.tmpa; tmpc = p.tmpc; neg_flag = p.neg_flag; steps = p.steps + k }
 
 -- NEGATE entered at its head for a negative dividend, 2 steps on, and past the pair for another, 3 steps on
-module _ (n b : ℕ) (p : Pair) (hn : 0 < n) (ha : p.tmpa < 2 ^ n) {r : Negate} where
-  pub pre_negative : (bit_and p.tmpa (top n) ≡ 0 → ⊥) → r ≡ cor_negate n (later p 2) b false → r ≡ pre_idiv n p b
+module _ (n b : ℕ) (p : Pair) {r : Negate} where
+  pub pre_negative : top_set n p.tmpa ≡ true → r ≡ cor_negate n (later p 2) b false → r ≡ pre_idiv n p b
   unfolding cor_negate second pair pre_idiv
   pre_negative t e =
-      e ∙ rw (top_masked n p.tmpa hn ha t)
+      e ∙ rw t
       (λ i. record {
         tmpa = negated (n + n) (p.tmpa * 2 ^ n + p.tmpc) / 2 ^ n;
         tmpb = with_sign n (top_set n b) b;
@@ -33,10 +33,10 @@ module _ (n b : ℕ) (p : Pair) (hn : 0 < n) (ha : p.tmpa < 2 ^ n) {r : Negate} 
       seven : p.steps + 2 + 5 ≡ p.steps + 7
       seven = omega arith
 
-  pub pre_positive : p.tmpc < 2 ^ n → bit_and p.tmpa (top n) ≡ 0 → r ≡ cor_negate n (later p 3) b true → r ≡ pre_idiv n p b
+  pub pre_positive : p.tmpc < 2 ^ n → top_set n p.tmpa ≡ false → r ≡ cor_negate n (later p 3) b true → r ≡ pre_idiv n p b
   unfolding cor_negate second pre_idiv
   pre_positive hc t e =
-      e ∙ rw (top_unmasked n p.tmpa hn ha t)
+      e ∙ rw t
       (λ i. record {
         tmpa = sym (digits_div p.tmpa hc) i;
         tmpb = with_sign n (top_set n b) b;
@@ -59,7 +59,7 @@ module _ (n : ℕ) (r : Results) (upper : ℕ) {carry : Bool} (negate : Bool) (s
   unfolding post_idiv
   post_refuses t = rw t
 
-  pub post_accepts : carry ≡ true → 0 < n → upper < 2 ^ n → {q' r' : ℕ} → q' ≡ with_sign n negate r.quotient → r' ≡ with_sign n (not (eqb (bit_and upper (top n)) 0)) r.remainder
+  pub post_accepts : carry ≡ true → {q' r' : ℕ} {s : Bool} → q' ≡ with_sign n negate r.quotient → s ≡ top_set n upper → r' ≡ with_sign n s r.remainder
       → accepted q' r' (steps + 10) ≡ post_idiv n r upper carry negate steps
   unfolding post_idiv
-  post_accepts t hn hu eq er = rw t (ap₂ (λ (x y : ℕ). accepted x y (steps + 10)) eq (er ∙ ap (λ (s : Bool). with_sign n s r.remainder) (mask_top n upper hn hu)))
+  post_accepts t eq es er = rw t (ap₂ (λ (x y : ℕ). accepted x y (steps + 10)) eq (er ∙ ap (λ (s : Bool). with_sign n s r.remainder) es))

@@ -1,15 +1,13 @@
--- The values of each width, read as those of the definitions over n.
+-- The code's values, read as those of the definitions over n; value is what a number of the code stands for.
 -- Assumes nothing.
+use Rattle.std.specs.Prelude.{ℕ, Option, Some, None}
+use Rattle.cord.specs.declared.Results
 use Rattle.idiv.specs.Idiv as Idiv
-use Rattle.idiv.specs.declared.PostIdiv8.{PostIdiv8}
-use Rattle.idiv.specs.declared.PostIdiv8.TheVariants.{Accepted as PostAccepted8, Refused as PostRefused8}
-use Rattle.idiv.specs.declared.PostIdiv16.{PostIdiv16}
-use Rattle.idiv.specs.declared.PostIdiv16.TheVariants.{Accepted as PostAccepted16, Refused as PostRefused16}
+use Rattle.idiv.specs.declared.PostIdiv
 
-abbrev pub post8_answer : PostIdiv8 → Idiv.PostAnswer
-post8_answer (PostAccepted8 q r t) = Idiv.accepted q r t
-post8_answer (PostRefused8 t) = Idiv.refused t
+abbrev pub post_outcome : {N : Type 0} → (N → ℕ) → Option (Results.Results N) → ℕ → Idiv.PostAnswer
+post_outcome value (Some r) t = Idiv.accepted (value r.quotient) (value r.remainder) t
+post_outcome value None t = Idiv.refused t
 
-abbrev pub post16_answer : PostIdiv16 → Idiv.PostAnswer
-post16_answer (PostAccepted16 q r t) = Idiv.accepted q r t
-post16_answer (PostRefused16 t) = Idiv.refused t
+abbrev pub post_answer : {N : Type 0} → (N → ℕ) → PostIdiv.PostIdiv N → Idiv.PostAnswer
+post_answer value p = post_outcome value p.outcome p.steps

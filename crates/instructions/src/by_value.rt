@@ -1,18 +1,21 @@
 // Each operation over the record by value: the record goes in, and what it holds then comes back. An
 // operation is its op and mode in a request, and its operand is Y; `signed` is the mode's 02 and `negate` its
 // 04, REP.
-ghost use Rattle.std.specs.Prelude.{◌≡◌, true, false};
-ghost use Rattle.registers.specs.Over.{settled_of, over};
-ghost use Rattle.instructions.specs.Named.{mode_by, checked_by};
+ghost use Rattle.std.specs.Prelude.{◌≡◌, true, false, ◌+◌, ◌*◌, ◌^◌};
+ghost use Rattle.flags.specs.Word.{flags_of};
+ghost use Rattle.divide.specs.Divide.{divide};
+ghost use Rattle.answer.specs.Charted.{of_adjusted, of_divided};
+ghost use Rattle.registers.specs.Over.{over};
+ghost use Rattle.instructions.specs.Named.{mode_by, checked_by, in_ax};
 
 use answer::answer as answers;
 use answer::answer::Answer;
+use bcd::adjust::Adjusted;
 use bcd::{adjust, ascii, decimal};
 use divide::div;
-use flags::parity;
+use flags::number::Number;
 use flags::word::Flags;
 use multiply::mul;
-use registers::count;
 use registers::record::{Registers, Settled};
 
 // The answer, or 5 where the word has a flag outside 08D5. Op, mode and operand are in their limits by their
@@ -21,132 +24,111 @@ fn checked(flags: u16, a: Answer) -> Answer
     ensures { result ≡ checked_by flags a }
 {
     if Flags::is_flags(flags) {
-        return a;
-    }
-    answers::zeros(5)
-}
-
-// AX and DX take what they are given only where all is done.
-fn settle(regs: Registers, a: Answer, ax_taken: u16, dx_taken: u16) -> Settled
-    ensures { result ≡ settled_of regs a ax_taken dx_taken }
-{
-    let mut flags = regs.flags;
-    let mut total = regs.total;
-    let mut steps = 0u16;
-    let status = count::count(a, &mut flags, &mut total, &mut steps);
-    if status != 0 {
-        return Settled {
-            status,
-            steps,
-            regs: Registers {
-                ax: regs.ax,
-                dx: regs.dx,
-                flags,
-                total,
-            },
-        };
-    }
-    Settled {
-        status,
-        steps,
-        regs: Registers {
-            ax: ax_taken,
-            dx: dx_taken,
-            flags,
-            total,
-        },
+        a
+    } else {
+        answers::zeros(5)
     }
 }
 
 // AX takes R, and DX stays.
 fn in_ax(regs: Registers, made: Answer) -> Settled
-    ensures { result ≡ settled_of regs (checked_by regs.flags made) (checked_by regs.flags made).r regs.dx }
+    ensures { result ≡ in_ax regs made }
 {
     let a = checked(regs.flags, made);
-    settle(regs, a, a.r, regs.dx)
+    regs.settle(a, a.r, regs.dx)
+}
+
+// An adjust reads AX and the flags.
+fn adjust<F: FnOnce(u16, Flags) -> Adjusted>(regs: Registers, operation: F) -> Settled
+    requires { F.pre operation regs.ax (flags_of regs.flags) }
+    ensures { (made : _) × F.post operation regs.ax (flags_of regs.flags) made × (result ≡ in_ax regs (of_adjusted made)) }
+{
+    let made = operation(regs.ax, Flags::from_word(regs.flags));
+    in_ax(regs, answers::of_adjusted(made))
 }
 
 pub fn aaa(regs: Registers) -> Settled
     ensures { result ≡ over 0x18 0x00 0 regs }
 {
-    let table = parity::parity_table();
-    let made = ascii::aaa(regs.ax, Flags::from_word(regs.flags), &table);
-    in_ax(regs, answers::of_adjusted(made))
+    adjust(regs, ascii::aaa)
 }
 
 pub fn aas(regs: Registers) -> Settled
     ensures { result ≡ over 0x19 0x00 0 regs }
 {
-    let table = parity::parity_table();
-    let made = ascii::aas(regs.ax, Flags::from_word(regs.flags), &table);
-    in_ax(regs, answers::of_adjusted(made))
+    adjust(regs, ascii::aas)
 }
 
 pub fn aad(regs: Registers, imm8: u8) -> Settled
     ensures { result ≡ over 0x1A 0x00 imm8 regs }
 {
-    let table = parity::parity_table();
-    let made = ascii::aad(regs.ax, imm8, Flags::from_word(regs.flags), &table);
-    in_ax(regs, answers::of_adjusted(made))
+    adjust(regs, |ax, flags| ascii::aad(ax, imm8, flags))
 }
 
 pub fn daa(regs: Registers) -> Settled
     ensures { result ≡ over 0x1B 0x00 0 regs }
 {
-    let table = parity::parity_table();
-    let made = decimal::daa(regs.ax, Flags::from_word(regs.flags), &table);
-    in_ax(regs, answers::of_adjusted(made))
+    adjust(regs, decimal::daa)
 }
 
 pub fn das(regs: Registers) -> Settled
     ensures { result ≡ over 0x1C 0x00 0 regs }
 {
-    let table = parity::parity_table();
-    let made = decimal::das(regs.ax, Flags::from_word(regs.flags), &table);
-    in_ax(regs, answers::of_adjusted(made))
+    adjust(regs, decimal::das)
 }
 
-// AL times the operand.
+// AL times the operand. This and the next are no twins: other registers are read, and the results go to others.
+#[tactic(auto, using(crate::proofs::NamedLaws::over_mul8))]
 pub fn mul8(regs: Registers, operand: u8, signed: bool, negate: bool) -> Settled
     ensures { result ≡ over 0x10 (mode_by false signed negate) operand regs }
 {
-    let table = parity::parity_table();
-    let al = adjust::al(regs.ax);
     let flags = Flags::from_word(regs.flags);
-    let made = mul::mul8(al, operand, signed, negate, flags, &table);
+    let made = mul::mul(adjust::al(regs.ax), operand, signed, negate, flags);
     in_ax(regs, answers::of_product8(made))
 }
 
 // AX times the operand: the upper half goes into DX.
+#[tactic(auto, using(crate::proofs::NamedLaws::over_mul16))]
 pub fn mul16(regs: Registers, operand: u16, signed: bool, negate: bool) -> Settled
     ensures { result ≡ over 0x10 (mode_by true signed negate) operand regs }
 {
-    let table = parity::parity_table();
     let flags = Flags::from_word(regs.flags);
-    let made = mul::mul16(regs.ax, operand, signed, negate, flags, &table);
+    let made = mul::mul(regs.ax, operand, signed, negate, flags);
     let a = checked(regs.flags, answers::of_product16(made));
-    settle(regs, a, a.s, a.r)
+    regs.settle(a, a.s, a.r)
 }
 
-// AX by the operand: the quotient goes into AL and the remainder into AH.
+// A divide reads the two halves of its dividend and the flags.
+fn divided<N: Number>(
+    regs: Registers,
+    upper: N,
+    lower: N,
+    operand: N,
+    signed: bool,
+    negate: bool,
+) -> Answer
+    ensures { result ≡ checked_by regs.flags (of_divided (divide N.BITS signed negate (N.value upper * 2 ^ N.BITS + N.value lower) (N.value operand) (flags_of regs.flags))) }
+{
+    let flags = Flags::from_word(regs.flags);
+    let made = div::div(upper, lower, operand, signed, negate, flags);
+    checked(regs.flags, answers::of_divided(made))
+}
+
+// AX by the operand: the quotient goes into AL and the remainder into AH. The next reads DX too, and writes both.
+#[tactic(auto, using(crate::proofs::NamedLaws::over_div8))]
 pub fn div8(regs: Registers, operand: u8, signed: bool, negate: bool) -> Settled
     ensures { result ≡ over 0x11 (mode_by false signed negate) operand regs }
 {
-    let table = parity::parity_table();
-    let flags = Flags::from_word(regs.flags);
-    let made = div::div8(regs.ax, operand, signed, negate, flags, &table);
-    let a = checked(regs.flags, answers::of_divided8(made));
-    settle(regs, a, a.s * 0x100 + a.r, regs.dx)
+    let (ah, al) = (adjust::ah(regs.ax), adjust::al(regs.ax));
+    let a = divided(regs, ah, al, operand, signed, negate);
+    regs.settle(a, a.s * 0x100 + a.r, regs.dx)
 }
 
 // DX with AX below it by the operand: the quotient goes into AX and the remainder into DX.
+#[tactic(auto, using(crate::proofs::NamedLaws::over_div16))]
 pub fn div16(regs: Registers, operand: u16, signed: bool, negate: bool) -> Settled
     ensures { result ≡ over 0x11 (mode_by true signed negate) operand regs }
 {
-    let table = parity::parity_table();
-    let flags = Flags::from_word(regs.flags);
-    let dividend = regs.dx as u32 * 0x1_0000 + regs.ax as u32;
-    let made = div::div16(dividend, operand, signed, negate, flags, &table);
-    let a = checked(regs.flags, answers::of_divided16(made));
-    settle(regs, a, a.r, a.s)
+    let a = divided(regs, regs.dx, regs.ax, operand, signed, negate);
+    regs.settle(a, a.r, a.s)
 }

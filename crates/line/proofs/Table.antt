@@ -4,8 +4,9 @@ use mathlib.Core.{Path.◌≡◌, Path.refl, Path.sym, Path.ap, Path.subst, Path
 use Prim.Native.Nat.{ℕ, ◌≤◌}
 use lib.{Dec.ltb, Dec.eqb, ListN.length}
 use borrow.Author.Tests.{eqb-true, eqb-false, eq-eqb, ne_eqb, not-true, not-false}
+use Rattle.std.proofs.Common.{Ok, Err}
 use Rattle.text.specs.Plain.{all_digits, fields_in}
-use Rattle.text.specs.declared.fields.Read.TheVariants.{Fields as OfFields, Length, Digit}
+use Rattle.text.specs.declared.fields.Malformed.TheVariants.{Length, Digit}
 use Rattle.text.proofs.Plain.{read_plainly}
 use Rattle.answer.specs.{Charted.refusal_status, Asked.zeros, Asked.asked, Table.rows}
 use Rattle.answer.specs.{Refused.Refusal, Refused.ZeroDivisor, Refused.TooWide, Refused.SignRange, Refused.RefusedDivide, Refused.refusal, declared.answer.Answer.Answer}
@@ -23,7 +24,7 @@ module _ (line : List ℕ) where
   unfolding answer_of
   plainly = rw (read_plainly line) (by (eqb (length line) 20) (all_digits line))
     where
-      by : (a b : Bool) → answer_by (cond a (cond b (OfFields (fields_in line)) Digit) Length) ≡ plain a b
+      by : (a b : Bool) → answer_by (cond a (cond b (Ok (fields_in line)) (Err Digit)) (Err Length)) ≡ plain a b
       by true true = refl
       by true false = refl
       by false b = refl

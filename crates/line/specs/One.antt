@@ -1,11 +1,10 @@
 -- What a line is answered, and the bytes that say it. Assumes nothing.
-use Rattle.std.specs.Prelude.{cond, List, ◌++◌, ℕ, ltb, length, drop}
+use Rattle.std.specs.Prelude.{cond, List, Ok, Err, ◌++◌, ℕ, ltb, length, drop}
 use Rattle.text.specs.Digits.{capital_of}
-use Rattle.text.specs.Fields.{read_of}
+use Rattle.text.specs.Fields.{Read, read_of}
 use Rattle.text.specs.Written.{written}
 use Rattle.text.specs.declared.fields.Fields.{Fields}
-use Rattle.text.specs.declared.fields.Read.{Read}
-use Rattle.text.specs.declared.fields.Read.TheVariants.{Fields as OfFields, Length, Digit}
+use Rattle.text.specs.declared.fields.Malformed.TheVariants.{Length, Digit}
 use Rattle.answer.specs.Asked.{Raw, raw, zeros, asked}
 use Rattle.answer.specs.declared.answer.Answer.{Answer}
 
@@ -15,9 +14,9 @@ raw_of f = raw f.op f.mode f.flags f.x f.y
 
 -- what a line that was read is answered: status 1, status 2, or by the rest of the table
 abbrev pub answer_by : Read → Answer
-answer_by (OfFields f) = asked (raw_of f)
-answer_by Length = zeros 1
-answer_by Digit = zeros 2
+answer_by (Ok f) = asked (raw_of f)
+answer_by (Err Length) = zeros 1
+answer_by (Err Digit) = zeros 2
 
 -- what a line is answered
 unfoldable pub answer_of : List ℕ → Answer

@@ -1,19 +1,16 @@
 // One line, handed in without its line feed, and lent room for the answer.
 ghost use Rattle.std.specs.Prelude.{◌≡◌, ◌++◌, ◌≤◌, ◌<◌, length, drop};
-ghost use Rattle.flags.specs.Parity.{ParityTable};
 ghost use Rattle.answer.specs.Asked.{asked};
-ghost use Rattle.text.specs.Digits.{CapitalTable};
 ghost use Rattle.line.specs.One.{raw_of, answer_by, text_by, status_in, answered};
 
 use answer::answer::Answer;
 use answer::{answer as answers, ask};
-use flags::parity;
 use request::raw::Raw;
-use text::fields::{Fields, Read};
-use text::{digits, fields, written};
+use text::fields::{Fields, Malformed};
+use text::{fields, written};
 
-fn answer_fields(f: Fields, parity: &[u8; 256]) -> Answer
-    requires { ParityTable parity.now }
+// No `From`: this crate has neither type, and the crates of the two do not know each other.
+fn answer_fields(f: Fields) -> Answer
     ensures { result ≡ asked (raw_of f) }
 {
     let raw = Raw {
@@ -23,41 +20,35 @@ fn answer_fields(f: Fields, parity: &[u8; 256]) -> Answer
         x: f.x,
         y: f.y,
     };
-    ask::ask(raw, parity)
+    ask::ask(raw)
 }
 
-fn answer_read(read: Read, parity: &[u8; 256]) -> Answer
-    requires { ParityTable parity.now }
+fn answer_read(read: Result<Fields, Malformed>) -> Answer
     ensures { result ≡ answer_by read }
 {
     match read {
-        Read::Fields(f) => answer_fields(f, parity),
-        Read::Length => answers::zeros(1),
-        Read::Digit => answers::zeros(2),
+        Ok(f) => answer_fields(f),
+        Err(Malformed::Length) => answers::zeros(1),
+        Err(Malformed::Digit) => answers::zeros(2),
     }
 }
 
-// Answers what was read of a line, in the first 19 bytes of the room.
-pub fn write_answer(capitals: &[u8; 16], parity: &[u8; 256], read: Read, out: &mut [u8]) -> u8
-    requires capital_table { CapitalTable capitals.now }
-    requires parity_table { ParityTable parity.now }
-    requires in_bounds { 19 ≤ length out.old }
+// Answers what was read of a line, in the first 19 bytes of the room, and returns the status as C has it.
+pub fn write_answer(read: Result<Fields, Malformed>, out: &mut [u8]) -> u8
+    requires { 19 ≤ length out.old }
     ensures { (result ≡ (answer_by read).status) × (out.new ≡ text_by (answer_by read) ++ drop 19 out.old) }
 {
-    let a = answer_read(read, parity);
-    written::write(capitals, a.status, a.flags, a.steps, a.r, a.s, out);
+    let a = answer_read(read);
+    written::write(a.status, a.flags, a.steps, a.r, a.s, out);
     a.status
 }
 
-// 19 bytes are written on every status but 7, and nothing on 7.
+// 19 bytes are written on every status but 7, and nothing on 7. The status is a number, as C gets it.
 pub fn answer_line(line: &[u8], out: &mut [u8]) -> u8
     ensures { (result ≡ status_in (length out.old) line.now) × (out.new ≡ answered line.now out.old) }
 {
     if out.len() < 19 {
         return 7;
     }
-    let capitals = digits::capital_table();
-    let parity = parity::parity_table();
-    let read = fields::read_fields(line);
-    write_answer(&capitals, &parity, read, out)
+    write_answer(fields::read_fields(line), out)
 }

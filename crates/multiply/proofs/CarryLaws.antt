@@ -26,14 +26,6 @@ word_is n x hn h16 hx = ap (wrapped 16) (signed_by n x hx) ∙ wrapped-sign 16 (
     by true = mod-eq_of_lt (omega (arith, wide))
     by false = refl
 
--- a word is that word itself
-pub word-whole : (x : ℕ) → x < 2 ^ 16 → x ≡ wrapped 16 (signed 16 x)
-word-whole x hx = sym (word_is 16 x (omega arith) (omega arith) hx ∙ by (top_set 16 x))
-  where
-    by : (s : Bool) → cond s (2 ^ 16 - (2 ^ 16 - x)) x ≡ x
-    by true = omega arith
-    by false = refl
-
 same_eq : (a b c d : ℕ) → (a ≡ b → c ≡ d) → (c ≡ d → a ≡ b) → eqb a b ≡ eqb c d
 same_eq a b c d f g = same_test (eqb a b) (eqb c d) (λ e. eq-eqb c d (f (eqb-true a b e))) (λ e. ne_eqb c d (λ p. eqb-false a b e (g p)))
 

@@ -1,13 +1,13 @@
 -- The multiplies over the width n: PREIMUL, CORX, NEGATE and the flag routines together give the product, the flags and the steps of the chart.
 -- Assumes nothing.
-use mathlib.Core.{Path.◌≡◌, Path.refl, Path.sym, Path.ap, Path.ap₂, Path.◌∙◌, Bool.Bool, Bool.true, Bool.false, Bool.not, Bool.cond, Bool.xor}
+use mathlib.Core.{Path.◌≡◌, Path.refl, Path.sym, Path.ap, Path.ap₂, Path.subst⁻¹, Path.◌∙◌, Bool.Bool, Bool.true, Bool.false, Bool.not, Bool.cond, Bool.xor}
 use Prim.Native.Nat.{ℕ, ◌+◌, ◌-◌, ◌*◌, ◌/◌, ◌%◌, ◌^◌, ◌≤◌, ◌<◌}
-use native.Mathlib.{Nat.mul_comm, Nat.div-add-mod', Omega.arith}
-use lib.{Bits.bit_and, Count.ones, Count.ones-le, Dec.leb, Dec.eqb, IntN.neg_ℤ, IntN.nat_abs}
+use native.Mathlib.{Nat.mod-lt, Nat.mul_comm, Nat.div-add-mod', Omega.arith}
+use lib.{Count.ones, Count.ones-le, Dec.leb, Dec.eqb, IntN.neg_ℤ, IntN.nat_abs, Pow.pow_pos}
 use borrow.Author.Tests.{leb-true, leb-false, eq-eqb, ne_eqb, lt-leb}
 use Rattle.numbers.specs.Numbers.{top, top_set, signed, magnitude, wrapped, negated}
 use Rattle.flags.specs.{Word.set_co, Word.set_coa, Szp.szp, declared.word.Flags.Flags}
-use Rattle.numbers.proofs.{Powers.top_twice, Powers.product_lt, Masks.mask_top, Masks.top_masked, Masks.top_unmasked, SignedLaws.TopIs, SignedLaws.top_is, SignedLaws.same_test}
+use Rattle.numbers.proofs.{Powers.top_twice, Powers.product_lt, SignedLaws.TopIs, SignedLaws.top_is, SignedLaws.same_test}
 use Rattle.numbers.proofs.SignLaws.{sign_of, plain, signed_by, abs_sign, wrapped-sign, plain_by, xor_true, xor_false}
 use Rattle.alu.specs.{Result.ResultCoa, Sum.adc, Sum.sbb, Sum.neg}
 use Rattle.negate.specs.Negate.{Negate, pair, second, cor_negate}
@@ -34,25 +34,33 @@ past n y c flag steps =
       steps = steps + cond (top_set n y) 5 6;
     }
 
-module _ (n x y : ℕ) (rep : Bool) (hn : 0 < n) (hx : x < 2 ^ n) {r : Negate} where
-  pub first_negative : {positive : ResultCoa} → (bit_and x (top n) ≡ 0 → ⊥) → positive ≡ neg n x
+module _ (n x y : ℕ) (rep : Bool) {r : Negate} where
+  pub first_negative : {positive : ResultCoa} → top_set n x ≡ true → positive ≡ neg n x
       → r ≡ cor_negate n (record { tmpa = 0; tmpc = positive.result; neg_flag = not rep; steps = 8 }) y true → r ≡ preimul n x y rep
   unfolding cor_negate second preimul sbb
   first_negative t ep er =
-      rw (top_masked n x hn hx t)
+      rw t
       (er ∙ ap₂ (λ (c : ℕ) (f : Bool). past n y c f 8) (ap (λ (p : ResultCoa). p.result) ep ∙ ap (λ (k : ℕ). k % 2 ^ n) taken) (sym (xor_true rep)))
     where
       taken : 2 ^ n + 0 - (x + 0) ≡ 2 ^ n - x
       taken = omega arith
 
-  pub first_positive : bit_and x (top n) ≡ 0 → r ≡ cor_negate n (record { tmpa = 0; tmpc = x; neg_flag = rep; steps = 6 }) y true → r ≡ preimul n x y rep
+  pub first_positive : top_set n x ≡ false → r ≡ cor_negate n (record { tmpa = 0; tmpc = x; neg_flag = rep; steps = 6 }) y true → r ≡ preimul n x y rep
   unfolding cor_negate second preimul
-  first_positive t er = rw (top_unmasked n x hn hx t) (er ∙ ap (λ (f : Bool). past n y x f 6) (sym (xor_false rep)))
+  first_positive t er = rw t (er ∙ ap (λ (f : Bool). past n y x f 6) (sym (xor_false rep)))
 
 pub preimul_few : (n x y : ℕ) (rep : Bool) {r : Negate} → r ≡ preimul n x y rep → r.steps < 100
 unfolding preimul
 preimul_few n x y rep e =
     omega (arith, ap (λ (r : Negate). r.steps) e, cond_le (top_set n x) 8 6 8 (omega arith) (omega arith), cond_le (top_set n y) 5 6 6 (omega arith) (omega arith))
+
+pub preimul_fits : (n x y : ℕ) (rep : Bool) {r : Negate} → x < 2 ^ n → r ≡ preimul n x y rep → r.tmpc < 2 ^ n
+unfolding preimul
+preimul_fits n x y rep hx e = subst⁻¹ (λ (k : ℕ). k < 2 ^ n) (ap (λ (r : Negate). r.tmpc) e) (by (top_set n x))
+  where
+    by : (s : Bool) → cond s (negated n x) x < 2 ^ n
+    by true = mod-lt (2 ^ n - x) (pow_pos n)
+    by false = hx
 
 -- ---- the product, negated or not
 
@@ -107,6 +115,11 @@ unfolding corx multiplied
 multiplied_few n f e hc i l =
     omega (arith, ap (λ (h : Halves). h.steps) e, ones-le n f.tmpc hc, cond_le f.neg_flag (cond (top_set n f.tmpb) 11 12) 0 12 (cond_le (top_set n f.tmpb) 11 12 12 (omega arith) (omega arith)) (omega arith))
 
+pub lower_fits : (n : ℕ) (f : Negate) {h : Halves} → h ≡ multiplied n f → h.tmpc < 2 ^ n
+unfolding multiplied
+lower_fits n f e =
+    subst⁻¹ (λ (k : ℕ). k < 2 ^ n) (ap (λ (h : Halves). h.tmpc) e) (mod-lt (cond f.neg_flag (negated (n + n) (f.tmpb * f.tmpc)) (f.tmpb * f.tmpc)) (pow_pos n))
+
 -- ---- MULCOF and IMULCOF
 
 -- the flags of a signed product, from IMULCOF's sum
@@ -121,12 +134,12 @@ module _ (n : ℕ) (h : Halves) (f : Flags) {g : Flags} {tail : ℕ} where
   unfolding mulcof
   mulcof_is eg et = ap₂ (answer n h) eg et
 
-  pub imulcof_is : {upper : ℕ} {sum : ResultCoa} {named : Flags} → 0 < n → h.tmpc < 2 ^ n → upper ≡ wrapped 16 (signed n h.tmpa)
-      → sum ≡ adc 16 upper 0 (not (eqb (bit_and h.tmpc (top n)) 0)) → named ≡ set_coa (not (eqb sum.result 0)) (not (eqb sum.result 0)) sum.aux_carry f
+  pub imulcof_is : {upper : ℕ} {sum : ResultCoa} {named : Flags} → upper ≡ wrapped 16 (signed n h.tmpa)
+      → sum ≡ adc 16 upper 0 (top_set n h.tmpc) → named ≡ set_coa (not (eqb sum.result 0)) (not (eqb sum.result 0)) sum.aux_carry f
       → g ≡ szp 16 sum.result named → tail ≡ cond (not (eqb sum.result 0)) 9 10 → answer n h g tail ≡ imulcof n h f
   unfolding imulcof
-  imulcof_is {sum = sum} hn hc eu es en eg et =
-      let whole : sum ≡ sign_sum n h.tmpa h.tmpc = es ∙ ap₂ (λ (u : ℕ) (b : Bool). adc 16 u 0 b) eu (mask_top n h.tmpc hn hc) in
+  imulcof_is {sum = sum} eu es en eg et =
+      let whole : sum ≡ sign_sum n h.tmpa h.tmpc = es ∙ ap (λ (u : ℕ). adc 16 u 0 (top_set n h.tmpc)) eu in
       ap₂ (answer n h) (eg ∙ ap (szp 16 sum.result) en ∙ ap (flagged f) whole) (et ∙ ap (λ (s : ResultCoa). cond (not (eqb s.result 0)) 9 10) whole)
 
 -- ---- the whole multiplies

@@ -1,12 +1,8 @@
--- The values of each width, read as those of the definitions over n.
+-- The product of either width, read as that of the definitions over n: its halves are one number of 2n bits.
 -- Assumes nothing.
-use Rattle.std.specs.Prelude.{◌+◌, ◌*◌}
+use Rattle.std.specs.Prelude.{ℕ, ◌+◌, ◌*◌, ◌^◌}
 use Rattle.multiply.specs.Routines.{Multiplied}
-use Rattle.multiply.specs.declared.mul.Product8.{Product8}
-use Rattle.multiply.specs.declared.mul.Product16.{Product16}
+use Rattle.multiply.specs.declared.mul.Product
 
-abbrev pub product8 : Product8 → Multiplied
-product8 r = record { product = r.product; flags = r.flags; steps = r.steps }
-
-abbrev pub product16 : Product16 → Multiplied
-product16 r = record { product = r.upper * 0x1_0000 + r.lower; flags = r.flags; steps = r.steps }
+abbrev pub product : {N : Type 0} → ℕ → (N → ℕ) → Product.Product N → Multiplied
+product n value r = record { product = value r.upper * 2 ^ n + value r.lower; flags = r.flags; steps = r.steps }

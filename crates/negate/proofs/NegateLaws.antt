@@ -3,10 +3,10 @@
 use mathlib.Core.{Path.◌≡◌, Path.refl, Path.sym, Path.ap, Path.ap₂, Path.◌∙◌, Bool.Bool, Bool.true, Bool.false, Bool.not}
 use Prim.Native.Nat.{ℕ, zero, suc, ◌+◌, ◌-◌, ◌*◌, ◌/◌, ◌%◌, ◌^◌, ◌<◌}
 use native.Mathlib.{Nat.add-zero, Nat.mod-lt, Nat.mod-eq_of_lt, Nat.mod_self, Omega.arith}
-use lib.{Arith.digits_div, Arith.digits_mod, Bits.bit_and, Dec.ltb, Pow.pow-add, Pow.pow_pos}
+use lib.{Arith.digits_div, Arith.digits_mod, Dec.ltb, Pow.pow-add, Pow.pow_pos}
 use borrow.Author.Tests.{ltb-true, ltb-false}
-use Rattle.numbers.specs.Numbers.{bit, top, negated}
-use Rattle.numbers.proofs.{Masks.top_masked, Masks.top_unmasked, SignLaws.xor_true, SignLaws.xor_false}
+use Rattle.numbers.specs.Numbers.{bit, top_set, negated}
+use Rattle.numbers.proofs.SignLaws.{xor_true, xor_false}
 use Rattle.alu.specs.{Result.ResultCoa, Sum.neg, Sum.sbb}
 use Rattle.alu.proofs.SumLaws.{neg-result}
 use Rattle.negate.specs.Negate.{Pair, Negate, pair, second, cor_negate}
@@ -82,19 +82,19 @@ pair_is n p {lower} {upper} ha hc el eu =
     below : lower.result ≡ negated (n + n) (a * m + c) % m
     below = lower_is ∙ sym (ap (λ (x : ℕ). x % m) digits ∙ digits_mod _ small)
 
--- the second operand, by its top bit as the code tests it
-module _ (n b : ℕ) (p : Pair) (hn : 0 < n) (hb : b < 2 ^ n) where
+-- the second operand, by its top bit
+module _ (n b : ℕ) (p : Pair) where
   abbrev after : ℕ → Bool → Bool → ℕ → Negate
   after b' carry flag steps = record { tmpa = p.tmpa; tmpb = b'; tmpc = p.tmpc; carry = carry; neg_flag = flag; steps = steps }
 
-  pub second-negative : {r : ResultCoa} → (bit_and b (top n) ≡ 0 → ⊥) → r ≡ neg n b → after r.result true (not p.neg_flag) (p.steps + 5) ≡ second n b p
+  pub second-negative : {t : Bool} {r : ResultCoa} → t ≡ top_set n b → t ≡ true → r ≡ neg n b → after r.result true (not p.neg_flag) (p.steps + 5) ≡ second n b p
   unfolding second
-  second-negative t e =
-      rw (top_masked n b hn hb t) (ap₂ (λ (x : ℕ) (s : Bool). after x true s (p.steps + 5)) (neg-result n b e) (sym (xor_true p.neg_flag)))
+  second-negative et is e =
+      rw (sym et ∙ is) (ap₂ (λ (x : ℕ) (s : Bool). after x true s (p.steps + 5)) (neg-result n b e) (sym (xor_true p.neg_flag)))
 
-  pub second_positive : bit_and b (top n) ≡ 0 → after b false p.neg_flag (p.steps + 6) ≡ second n b p
+  pub second_positive : {t : Bool} → t ≡ top_set n b → t ≡ false → after b false p.neg_flag (p.steps + 6) ≡ second n b p
   unfolding second
-  second_positive t = rw (top_unmasked n b hn hb t) (ap (λ (s : Bool). after b false s (p.steps + 6)) (sym (xor_false p.neg_flag)))
+  second_positive et is = rw (sym et ∙ is) (ap (λ (s : Bool). after b false s (p.steps + 6)) (sym (xor_false p.neg_flag)))
 
 -- entered at its head or past the pair
 module _ (n b : ℕ) (p : Pair) {r : Negate} where

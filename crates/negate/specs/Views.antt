@@ -1,21 +1,20 @@
--- The values of each width, read as those of the definitions over n.
+-- The code's pair and what it leaves, read as those of the definitions over n; value is what a number of the code stands for.
 -- Assumes nothing.
+use Rattle.std.specs.Prelude.{ℕ}
 use Rattle.negate.specs.Negate.{Pair, Negate}
-use Rattle.negate.specs.declared.Pair8.{Pair8}
-use Rattle.negate.specs.declared.Negate8.{Negate8}
-use Rattle.negate.specs.declared.Pair16.{Pair16}
-use Rattle.negate.specs.declared.Negate16.{Negate16}
+use Rattle.negate.specs.declared.Pair
+use Rattle.negate.specs.declared.Negate
 
-abbrev pub pair8 : Pair8 → Pair
-pair8 p = record { tmpa = p.tmpa; tmpc = p.tmpc; neg_flag = p.neg_flag; steps = p.steps }
+abbrev pub pair_of : {N : Type 0} → (N → ℕ) → Pair.Pair N → Pair
+pair_of value p = record { tmpa = value p.tmpa; tmpc = value p.tmpc; neg_flag = p.neg_flag; steps = p.steps }
 
-abbrev pub negate8 : Negate8 → Negate
-negate8 r =
-    record { tmpa = r.tmpa; tmpb = r.tmpb; tmpc = r.tmpc; carry = r.carry; neg_flag = r.neg_flag; steps = r.steps }
-
-abbrev pub pair16 : Pair16 → Pair
-pair16 p = record { tmpa = p.tmpa; tmpc = p.tmpc; neg_flag = p.neg_flag; steps = p.steps }
-
-abbrev pub negate16 : Negate16 → Negate
-negate16 r =
-    record { tmpa = r.tmpa; tmpb = r.tmpb; tmpc = r.tmpc; carry = r.carry; neg_flag = r.neg_flag; steps = r.steps }
+abbrev pub negate_of : {N : Type 0} → (N → ℕ) → Negate.Negate N → Negate
+negate_of value r =
+    record {
+      tmpa = value r.tmpa;
+      tmpb = value r.tmpb;
+      tmpc = value r.tmpc;
+      carry = r.carry;
+      neg_flag = r.neg_flag;
+      steps = r.steps;
+    }

@@ -6,3 +6,4 @@ pub mod SignedLaws
 pub mod SignLaws
 pub mod Tables
 pub mod RowLaws
+pub mod Widths

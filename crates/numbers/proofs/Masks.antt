@@ -4,7 +4,7 @@ use mathlib.Core.{Path.◌≡◌, Path.refl, Path.sym, Path.ap, Path.◌∙◌, 
 use Prim.Native.Nat.{ℕ, zero, suc, ◌+◌, ◌-◌, ◌*◌, ◌/◌, ◌%◌, ◌^◌, ◌<◌}
 use native.Mathlib.{Nat.pow-suc, Nat.mod-lt, Nat.div-add-mod', Omega.arith}
 use lib.{Dec.leb, Dec.ltb, Dec.eqb, Dec.lit<, Pow.pow_pos}
-use lib.Bits.{bit_and, bit_or, bit_xor, or_shifted, and_high, and_shr, and_mod, xor_shr, xor_mod}
+use lib.Bits.{bit_and, bit_xor, and_high, and_shr, and_mod, xor_shr, xor_mod}
 use borrow.Author.Tests.{eq-eqb, ne_eqb, le-leb, lt-leb, lt-ltb, le-ltb, leb-true, leb-false}
 use Rattle.numbers.specs.Numbers.{bit, is_set, top, top_set}
 use Rattle.numbers.proofs.Powers.{top_twice}
@@ -74,9 +74,3 @@ digit_xor k a b = ap (λ (x : ℕ). x % 2) (xor_shr a b k) ∙ xor_mod (a / 2 ^ 
 
 pub digit_and : (k a b : ℕ) → bit_and a b / 2 ^ k % 2 ≡ bit_and (a / 2 ^ k % 2) (b / 2 ^ k % 2)
 digit_and k a b = ap (λ (x : ℕ). x % 2) (and_shr a b k) ∙ and_mod (a / 2 ^ k) (b / 2 ^ k) 1
-
--- a bit put into a number whose lowest is clear
-pub or_bit : (x b : ℕ) → x % 2 ≡ 0 → b < 2 → bit_or x b ≡ x + b
-or_bit x b e h =
-    let half : x ≡ x / 2 * 2 ^ 1 = omega arith in
-    ap (λ (y : ℕ). bit_or y b) half ∙ or_shifted (x / 2) 1 b h ∙ ap (λ (y : ℕ). y + b) (sym half)

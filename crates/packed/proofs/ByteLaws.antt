@@ -6,9 +6,9 @@ use lib.Dec.{leb, ltb}
 use borrow.Author.Tests.{leb-true, leb-false, le-leb, lt-leb, ltb-true, ltb-false, lt-ltb}
 use Rattle.numbers.specs.Numbers.{bit}
 use Rattle.flags.specs.{Szp.szp, declared.word.Flags.Flags}
-use Rattle.alu.specs.{Result.ResultCoa, Sum.adc, Sum.sbb, Views.coa8, declared.result.ResultCoa8.ResultCoa8}
+use Rattle.alu.specs.{Result.ResultCoa, Sum.adc, Sum.sbb, Views.coa}
+use Rattle.alu.specs.declared.result.ResultCoa as Declared
 use Rattle.bcd.specs.{Adjust.adjusts, Decimal.high_adjusts, Decimal.distance, Decimal.decimal, Decimal.daa_of, Decimal.das_of, declared.adjust.Adjusted.Adjusted}
-use Rattle.bcd.proofs.AdjustLaws.{factors}
 use Rattle.packed.specs.{Digits.is_packed, Digits.two_digits, Digits.byte_of, Sum.plus, Sum.minus, Byte.byte_by, Byte.flags_after, Byte.of_adjusted, declared.byte.Byte.Byte}
 use Rattle.packed.proofs.{DigitLaws.digits_and, CheckLaws.added_99, CheckLaws.subtracted_99, PartLaws.carried, PartLaws.borrowed}
 use Rattle.packed.proofs.TensLaws.{summed, taken, in_order}
@@ -34,15 +34,15 @@ adjust_leaves : (al k : ℕ) (f : Flags) → al < 256 → of_adjusted (decimal (
 unfolding decimal szp
 adjust_leaves al k f h = let low : (al / 256 * 256 + k % 256) % 256 ≡ k % 256 = omega arith in λ i. made (low i) f.carry
 
-module _ (r : ResultCoa8) (h : r.result < 256) where
+module _ (r : Declared.ResultCoa ℕ) (h : r.result < 256) where
   abbrev at : ℕ → (ℕ → ℕ → ℕ) → Byte
   at al move = made (move al (distance al (flags_after r))) (high_adjusts al r.aux_carry r.carry)
 
-  daa_leaves : of_adjusted (daa_of r.result (flags_after r)) ≡ leaves up (coa8 r)
+  daa_leaves : of_adjusted (daa_of r.result (flags_after r)) ≡ leaves up (coa (λ (k : ℕ). k) r)
   unfolding daa_of
   daa_leaves = adjust_leaves r.result _ _ h ∙ (λ i. at (mod-eq_of_lt h i) up)
 
-  das_leaves : of_adjusted (das_of r.result (flags_after r)) ≡ leaves down (coa8 r)
+  das_leaves : of_adjusted (das_of r.result (flags_after r)) ≡ leaves down (coa (λ (k : ℕ). k) r)
   unfolding das_of
   das_leaves = adjust_leaves r.result _ _ h ∙ (λ i. at (mod-eq_of_lt h i) down)
 
@@ -51,6 +51,13 @@ or_test : (p q : Bool) {t : Bool} → (p ≡ true → t ≡ true) → (q ≡ tru
 or_test true q f g h = sym (f refl)
 or_test false true f g h = sym (g refl)
 or_test false false f g h = sym (h refl refl)
+
+-- each test as a factor
+factors : (low high : Bool) → bit low * 6 + bit high * 96 ≡ cond low 6 0 + cond high 96 0
+factors true true = refl
+factors true false = refl
+factors false true = refl
+factors false false = refl
 
 -- the tests as they turn out, put into what the adjust leaves
 tested : (move : ℕ → ℕ → ℕ) (r : ResultCoa) {p q : Bool} → adjusts r.result r.aux_carry ≡ p → high_adjusts r.result r.aux_carry r.carry ≡ q
@@ -127,7 +134,7 @@ module _ (x y : ℕ) (c : Bool) (hx : is_packed x ≡ true) (hy : is_packed y �
       let q = bit (ltb (two_digits x) all_taken) in
       taken x (y + bit c) (two_digits x) all_taken p q (x / 16 + q * 10 - (y / 16 + p)) (x % 16 + p * 10 - low_taken) (omega arith) (omega arith) (omega arith) (omega arith) (omega arith) (omega arith) (omega arith)
 
-  pub by_adc_daa : {r : ResultCoa8} {f : Flags} {a : Adjusted} {b : Byte} → coa8 r ≡ adc 8 x y c → f ≡ flags_after r → a ≡ daa_of r.result f
+  pub by_adc_daa : {r : Declared.ResultCoa ℕ} {f : Flags} {a : Adjusted} {b : Byte} → coa (λ (k : ℕ). k) r ≡ adc 8 x y c → f ≡ flags_after r → a ≡ daa_of r.result f
       → b ≡ of_adjusted a → b ≡ byte_by plus x y c
   unfolding adc
   by_adc_daa {r} e ef ea eb =
@@ -135,7 +142,7 @@ module _ (x y : ℕ) (c : Bool) (hx : is_packed x ≡ true) (hy : is_packed y �
       eb ∙ ap of_adjusted ea ∙ ap (λ (g : Flags). of_adjusted (daa_of r.result g)) ef ∙ daa_leaves r small ∙ ap (leaves up) e
       ∙ tested up (adc 8 x y c) sum_low sum_high ∙ (λ i. made (sum_byte i) (leb 100 total))
 
-  pub by_sbb_das : {r : ResultCoa8} {f : Flags} {a : Adjusted} {b : Byte} → coa8 r ≡ sbb 8 x y c → f ≡ flags_after r → a ≡ das_of r.result f
+  pub by_sbb_das : {r : Declared.ResultCoa ℕ} {f : Flags} {a : Adjusted} {b : Byte} → coa (λ (k : ℕ). k) r ≡ sbb 8 x y c → f ≡ flags_after r → a ≡ das_of r.result f
       → b ≡ of_adjusted a → b ≡ byte_by minus x y c
   unfolding sbb
   by_sbb_das {r} e ef ea eb =

@@ -7,11 +7,15 @@ use lib.{Arith.lt_of_le-ne, Dec.eqb}
 use lib.ListN.{length, take, drop, get_or, set, replicate, take-append-drop, length-set, length-drop, drop_of_length-le}
 use lib.Seq.{drop-cons, take-suc-set, drop-set-lt, get_or-set_same, get_or-set_other, lt-length-set}
 use Rattle.numbers.proofs.BitLaws.{bit_le}
-use Rattle.packed.specs.{Sum.Operation, Sum.operation_of, Judge.judged}
+use Rattle.packed.specs.{Digits.is_packed, Sum.Operation, Sum.operation_of, Judge.judged}
 use Rattle.packed.specs.{Packed.Strung, Packed.strung, Packed.behind, Packed.string_by, Packed.left, Packed.left_by, Packed.packed_by, Byte.byte_by, declared.byte.Byte.Byte}
 use Rattle.packed.specs.Halves.{Operands, half_of, InHalves, WorkSpace, Made, chosen, onto}
-use Rattle.packed.specs.{declared.judge.Judged.TheVariants.Admitted, declared.string.Outcome.TheVariants.Done}
+use Rattle.std.specs.Prelude.{Ok}
 use Rattle.packed.proofs.{DigitLaws.all_at, DigitLaws.all_drop, PartLaws.by_parts, StringLaws.string_nil, StringLaws.string_cons, StringLaws.string_length}
+
+-- the bytes of both operands at a place are packed digits
+pub digits_at : {x y : List ℕ} (i : ℕ) → Operands x y → i < length x → (is_packed (get_or x i 0) ≡ true) × (is_packed (get_or y i 0) ≡ true)
+digits_at {x} {y} i o h = (all_at i x o.packed_x h, all_at i y o.packed_y (omega (arith, o.alike)))
 
 -- what is chosen so far, what is still to be chosen, and what stands behind
 abbrev pub choosing : List ℕ → List ℕ → ℕ → List ℕ → ℕ → ℕ → Strung
@@ -124,14 +128,14 @@ module _ (subtract : Bool) (x y : List ℕ) {bytes halves : List ℕ} (operands 
       ∙ sym more ∙ (λ k. string_by (operation_of subtract) (sym (drop-cons x i 0 here) k) (sym (drop-cons y i 0 there) k) c)
 
   -- so what is written is the string, and what stood after it
-  pub work_done : (c : Bool) (out : List ℕ) {r : Bool} {wrote : List ℕ} → judged x y (length out) ≡ Admitted
+  pub work_done : (c : Bool) (out : List ℕ) {r : Bool} {wrote : List ℕ} → judged x y (length out) ≡ Ok tt
       → strung wrote r ≡ onto (chosen bytes halves (length x) 0 (half_of c)) (drop (length x) out)
-      → left (Done r) wrote ≡ packed_by (operation_of subtract) x y c out
+      → left (Ok r) wrote ≡ packed_by (operation_of subtract) x y c out
   unfolding packed_by
   work_done c out e w =
       let result = string_by (operation_of subtract) x y c in
       let done = w ∙ (λ k. onto (chosen-string (length x) 0 c (omega arith) k) (drop (length x) out)) in
-      (λ k. left (Done (done k).carry) (done k).bytes) ∙ (λ k. left (Done result.carry) (result.bytes ++ drop (sym (string_length (operation_of subtract) x y c) k) out))
+      (λ k. left (Ok (done k).carry) (done k).bytes) ∙ (λ k. left (Ok result.carry) (result.bytes ++ drop (sym (string_length (operation_of subtract) x y c) k) out))
       ∙ (λ k. left_by (sym e k) result out)
 
 -- in a list of zeros all are at most m

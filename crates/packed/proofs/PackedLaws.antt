@@ -9,7 +9,7 @@ use Rattle.numbers.proofs.{Powers.rest_small, Powers.rest_large, BitLaws.bit_le}
 use Rattle.packed.specs.{Digits.all_packed, Digits.number_of, Digits.bytes_of, Sum.Worked, Sum.Operation, Sum.plus, Sum.minus, Sum.operation_of}
 use Rattle.packed.specs.{Packed.strung, Packed.behind, Packed.string_by, Packed.left_by, Packed.packed_by, Judge.judged}
 use Rattle.packed.specs.declared.judge.Refusal.TheVariants.{LengthsDiffer, Length, Digit, Room}
-use Rattle.packed.specs.declared.judge.Judged.TheVariants.{Admitted, Refused}
+use Rattle.std.specs.Prelude.{Ok, Err}
 use Rattle.packed.proofs.JudgeLaws.{differ, refuses}
 use Rattle.packed.proofs.DigitLaws.{some_numbers, number_below, bytes_packed, number_of_bytes, bytes_of_number}
 use Rattle.packed.proofs.{PartLaws.carried, PartLaws.borrowed, PartLaws.by_parts, StringLaws.string-cut, StringLaws.string_length}
@@ -94,7 +94,7 @@ either_order_left x y c out = by (eqb (length x) (length y)) refl
         sym (refuses plus x y c out (sym (differ x y (length out) n))) ∙ refuses plus y x c out (sym (differ y x (length out) (λ d. n (sym d))))
     by true e =
         let l = eqb-true (length x) (length y) e in
-        λ i. left_by (cond (not (eqb (l i) (sym l i))) (Refused LengthsDiffer) (cond (not (between 1 32 (l i))) (Refused Length) (cond (not (and_comm (all_packed x) (all_packed y) i)) (Refused Digit) (cond (ltb (length out) (l i)) (Refused Room) Admitted)))) (either_order x y c l i) out
+        λ i. left_by (cond (not (eqb (l i) (sym l i))) (Err LengthsDiffer) (cond (not (between 1 32 (l i))) (Err Length) (cond (not (and_comm (all_packed x) (all_packed y) i)) (Err Digit) (cond (ltb (length out) (l i)) (Err Room) (Ok tt))))) (either_order x y c l i) out
 
 undone : (subtract : Bool) (m x y : ℕ) (c : Bool) → x < m → y < m
     → operation_of (not subtract) m (operation_of subtract m x y c).number y c ≡ worked x (operation_of subtract m x y c).carry

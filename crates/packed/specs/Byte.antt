@@ -1,7 +1,7 @@
 -- One byte of two digits, by ADC and DAA or by SBB and DAS. Assumes nothing.
 use Rattle.std.specs.Prelude.{Bool, false, ℕ}
 use Rattle.flags.specs.declared.word.Flags.{Flags}
-use Rattle.alu.specs.declared.result.ResultCoa8.{ResultCoa8}
+use Rattle.alu.specs.declared.result.ResultCoa.{ResultCoa}
 use Rattle.bcd.specs.Adjust.{al_of}
 use Rattle.bcd.specs.declared.adjust.Adjusted.{Adjusted}
 use Rattle.packed.specs.Digits.{two_digits, byte_of}
@@ -14,7 +14,7 @@ byte_by op x y c =
     let worked = op 100 (two_digits x) (two_digits y) c in record { byte = byte_of worked.number; carry = worked.carry }
 
 -- C, O and A as ADC or SBB left them. The adjust reads A and C alone, and sets all six
-abbrev pub flags_after : ResultCoa8 → Flags
+abbrev pub flags_after : ResultCoa ℕ → Flags
 flags_after made =
     record {
       carry = made.carry;

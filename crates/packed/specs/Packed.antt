@@ -1,12 +1,9 @@
 -- Addition and subtraction of packed decimal strings: what is answered, and what is left in the buffer for the result. Assumes nothing.
-use Rattle.std.specs.Prelude.{Bool, List, ◌++◌, ℕ, ◌*◌, ◌^◌, length, drop}
+use Rattle.std.specs.Prelude.{Bool, Result, Ok, Err, List, ◌++◌, ℕ, ◌*◌, ◌^◌, length, drop}
 use Rattle.packed.specs.Digits.{number_of, bytes_of}
 use Rattle.packed.specs.Sum.{Operation}
-use Rattle.packed.specs.Judge.{judged}
-use Rattle.packed.specs.declared.judge.Judged.{Judged}
-use Rattle.packed.specs.declared.judge.Judged.TheVariants.{Admitted, Refused}
-use Rattle.packed.specs.declared.string.Outcome.{Outcome}
-use Rattle.packed.specs.declared.string.Outcome.TheVariants.{Done, Refused as NotDone}
+use Rattle.packed.specs.Judge.{Judged, judged}
+use Rattle.packed.specs.declared.judge.Refusal.{Refusal}
 
 -- packed bytes, and a carry or borrow out of the last
 pub record Strung : Type 0 where
@@ -26,6 +23,10 @@ unfoldable pub string_by : Operation → List ℕ → List ℕ → Bool → Stru
 string_by op x y c =
     let worked = op (10 ^ (2 * length x)) (number_of x) (number_of y) c in strung (bytes_of (length x) worked.number) worked.carry
 
+-- the carry or borrow out of the last byte, or why nothing was written
+abbrev pub Outcome : Type 0
+Outcome = Result Bool Refusal
+
 -- what is left: the outcome, and the bytes of the buffer
 pub record Left : Type 0 where
   pub outcome : Outcome
@@ -37,8 +38,8 @@ left outcome buffer = record { outcome = outcome; buffer = buffer }
 
 -- the result's bytes, and what stood after them; a refusal writes nothing
 abbrev pub left_by : Judged → Strung → List ℕ → Left
-left_by Admitted result out = left (Done result.carry) (result.bytes ++ drop (length result.bytes) out)
-left_by (Refused why) result out = left (NotDone why) out
+left_by (Ok done) result out = left (Ok result.carry) (result.bytes ++ drop (length result.bytes) out)
+left_by (Err why) result out = left (Err why) out
 
 -- operands, carry or borrow, and the buffer as it was
 unfoldable pub packed_by : Operation → List ℕ → List ℕ → Bool → List ℕ → Left

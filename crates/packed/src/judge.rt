@@ -4,19 +4,13 @@ ghost use Rattle.numbers.specs.Numbers.{between};
 ghost use Rattle.packed.specs.Digits.{is_packed, all_packed};
 ghost use Rattle.packed.specs.Judge.{judged, refusal_status};
 
-// In the order in which they are tested: 20 to 23.
-#[derive(Drop)]
+// In the order in which they are tested, with their statuses.
+#[derive(Clone, Copy, Debug, PartialEq, Eq)]
 pub enum Refusal {
-    LengthsDiffer,
-    Length,
-    Digit,
-    Room,
-}
-
-#[derive(Drop)]
-pub enum Judged {
-    Admitted,
-    Refused(Refusal),
+    LengthsDiffer = 20,
+    Length = 21,
+    Digit = 22,
+    Room = 23,
 }
 
 // The longest string, in bytes.
@@ -25,7 +19,7 @@ const LONGEST: usize = 32;
 fn is_length(size: usize) -> bool
     ensures { result ≡ between 1 32 size }
 {
-    (1 <= size) & (size <= LONGEST)
+    (1..=LONGEST).contains(&size)
 }
 
 fn is_packed(byte: u8) -> bool
@@ -41,39 +35,35 @@ fn both_packed(x: &[u8], y: &[u8]) -> bool
     ensures { result ≡ all_packed x.now && all_packed y.now }
 {
     let mut packed = true;
-    let mut i = 0;
-    while i < x.len() {
-        packed = packed & is_packed(x[i]) & is_packed(y[i]);
-        i += 1;
+    for (left, right) in x.iter().zip(y) {
+        packed = packed & is_packed(*left) & is_packed(*right);
     }
     packed
 }
 
-pub fn judge(x: &[u8], y: &[u8], room: usize) -> Judged
+#[tactic(auto, using(crate::proofs::JudgeLaws::differ, crate::proofs::JudgeLaws::misfit, crate::proofs::JudgeLaws::unpacked, crate::proofs::JudgeLaws::roomless, crate::proofs::JudgeLaws::admits))]
+pub fn judge(x: &[u8], y: &[u8], room: usize) -> Result<(), Refusal>
     ensures { result ≡ judged x.now y.now room }
 {
     if x.len() != y.len() {
-        return Judged::Refused(Refusal::LengthsDiffer);
+        return Err(Refusal::LengthsDiffer);
     }
     if !is_length(x.len()) {
-        return Judged::Refused(Refusal::Length);
+        return Err(Refusal::Length);
     }
     if !both_packed(x, y) {
-        return Judged::Refused(Refusal::Digit);
+        return Err(Refusal::Digit);
     }
     if room < x.len() {
-        return Judged::Refused(Refusal::Room);
+        return Err(Refusal::Room);
     }
-    Judged::Admitted
+    Ok(())
 }
 
-pub fn refusal_status(refusal: Refusal) -> u8
-    ensures { result ≡ refusal_status refusal }
-{
-    match refusal {
-        Refusal::LengthsDiffer => 20,
-        Refusal::Length => 21,
-        Refusal::Digit => 22,
-        Refusal::Room => 23,
+impl From<Refusal> for u8 {
+    fn from(refusal: Refusal) -> u8
+        ensures { result ≡ refusal_status refusal }
+    {
+        refusal as u8
     }
 }

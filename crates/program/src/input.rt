@@ -1,22 +1,13 @@
-// An input: a file, or standard input.
-ghost use Rattle.std.specs.Prelude.{◌≤◌, length};
+// An input: a file, or standard input. It is read block by block into a buffer, where what one block leaves over stands
+// before the next.
+ghost use Rattle.std.specs.Prelude.{◌≡◌, ◌-◌, ◌≤◌, length, take, drop, IfOk};
 
-use crate::{Program, output};
+use crate::{Failed, Program};
 use std::fs::File;
 use std::io;
 use std::io::{ErrorKind, Read};
+use std::ops::Range;
 use std::rt::Files;
-
-// The file that is opened for reading. If that fails it is said.
-pub fn open<R: Files>(files: &R, program: &Program, path: &[u8]) -> Option<R::File> {
-    match open_path(files, path) {
-        Ok(file) => Some(file),
-        Err(error) => {
-            output::fail(program, path, error);
-            None
-        }
-    }
-}
 
 // The library opens files whose names are text.
 fn open_path<R: Files>(files: &R, path: &[u8]) -> io::Result<R::File> {
@@ -26,38 +17,53 @@ fn open_path<R: Files>(files: &R, path: &[u8]) -> io::Result<R::File> {
     }
 }
 
-// How many bytes of the buffer are filled, whether the input has ended, and whether it could be read.
-#[derive(Drop)]
-pub struct Filled {
-    pub have: usize,
-    pub at_end: bool,
-    pub ok: bool,
+impl Program<'_> {
+    // Opens the file for reading.
+    pub fn open<R: Files>(&self, files: &R, path: &[u8]) -> Result<R::File, Failed> {
+        open_path(files, path).map_err(|error| self.fail(path, error))
+    }
 }
 
-// Reads once behind the bytes that are kept. If that fails, the input is named.
-pub fn fill<R: Read>(
-    program: &Program,
-    name: &[u8],
+// What is asked of a buffer is each function's own: a place in it here, and a range of it below.
+// Reads once behind the bytes that are kept, and says how many there are then. At the input's end there are no more.
+pub fn fill<R: Read>(input: &mut R, buffer: &mut [u8], kept: usize) -> io::Result<usize>
+    requires { kept ≤ length buffer.old }
+    ensures { IfOk result (λ have. (kept ≤ have) × (have ≤ length buffer.old)) }
+{
+    let n = input.read(&mut buffer[kept..])?;
+    Ok(kept + n)
+}
+
+// Moves the bytes to keep to the front of the buffer, and says how many they are.
+fn keep_front(buffer: &mut [u8], kept: Range<usize>) -> usize
+    requires { (kept.start ≤ kept.end) × (kept.end ≤ length buffer.old) }
+    ensures count { result ≡ kept.end - kept.start }
+    ensures front { take result buffer.new ≡ drop kept.start (take kept.end buffer.old) }
+{
+    blocks::keep(buffer, kept.start, kept.end);
+    kept.len()
+}
+
+// Gives the step each block, which begins with what is kept of the one before, and whether the input is at its end. The
+// step says which bytes of the block to keep. A proved loop has to end, and nothing says that an input does; so the
+// turns are counted up to a number that no run reaches.
+pub fn each_block<R: Read, E: From<io::Error>, F: FnMut(&[u8], bool) -> Result<Range<usize>, E>>(
     input: &mut R,
     buffer: &mut [u8],
-    kept: usize,
-) -> Filled
-    requires { kept ≤ length buffer.old }
-    ensures { (kept ≤ result.have) × (result.have ≤ length buffer.old) }
+    mut step: F,
+) -> Result<(), E>
+    requires callable { F.IsAlwaysCallable step }
+    requires within { (f : F) (block : _) (at_end : _) (r : _) → F.post f block at_end r → IfOk r (λ kept. (kept.start ≤ kept.end) × (kept.end ≤ length block.now)) }
 {
-    match input.read(&mut buffer[kept..]) {
-        Ok(n) => Filled {
-            have: kept + n,
-            at_end: n == 0,
-            ok: true,
-        },
-        Err(error) => {
-            output::fail(program, name, error);
-            Filled {
-                have: kept,
-                at_end: true,
-                ok: false,
-            }
+    let mut kept = 0;
+    for _ in 0..u64::MAX {
+        let have = fill(input, buffer, kept)?;
+        let at_end = have == kept;
+        let left = step(&buffer[..have], at_end)?;
+        if at_end {
+            break;
         }
+        kept = keep_front(buffer, left);
     }
+    Ok(())
 }

@@ -1,5 +1,4 @@
-// What every program does around its work: options, inputs, standard output and messages. Most functions take the
-// program, whose name stands before each message.
+// What every program does around its work: options, inputs, standard output and messages.
 #![tactic(auto)]
 
 pub mod input;
@@ -8,6 +7,7 @@ pub mod output;
 
 use std::alloc::Global;
 use std::io::{Stderr, Stdin, Stdout};
+use std::process::ExitCode;
 
 // A program's name, its standard streams, and the memory that the words of a message take.
 #[derive(Clone, Copy)]
@@ -17,4 +17,15 @@ pub struct Program<'a> {
     pub output: Stdout,
     pub errors: Stderr,
     pub memory: Global,
+}
+
+// The work failed, and standard error says why.
+#[derive(Clone, Copy, Debug, PartialEq, Eq)]
+#[must_use]
+pub struct Failed;
+
+impl From<Failed> for ExitCode {
+    fn from(_failed: Failed) -> ExitCode {
+        ExitCode::FAILURE
+    }
 }

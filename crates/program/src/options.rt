@@ -1,23 +1,20 @@
 // The options, which are looked for among the arguments before any work is done.
-ghost use Rattle.std.specs.Prelude.{◌≤◌, length};
+ghost use Rattle.std.specs.Prelude.{◌≤◌, length, IfOk};
 
-use crate::Program;
-use crate::output::say;
+use crate::{Failed, Program};
 use std::env::FillError;
 use std::rt::Env;
 
-// What the arguments ask for. `Work` holds the place of the word `--`, which names no file, or the number of
-// arguments if that word is not there.
-#[derive(Drop)]
+// What the arguments ask for. `Work` holds the place of the word `--`, which names no file, if it is there.
+#[derive(Clone, Copy, Debug, PartialEq, Eq)]
 pub enum Asked {
     Help,
     Version,
-    Unknown(usize),
-    Work(usize),
+    Work(Option<usize>),
 }
 
 // What one argument is.
-#[derive(Drop)]
+#[derive(Clone, Copy, Debug, PartialEq, Eq)]
 enum Word {
     Help,
     Version,
@@ -26,70 +23,55 @@ enum Word {
     Name,
 }
 
-// A lone hyphen is a name, that of standard input.
-fn read_word(argument: &[u8]) -> Word {
-    if argument.len() < 2 {
-        return Word::Name;
-    }
-    if argument[0] != b'-' {
-        return Word::Name;
-    }
-    match argument {
-        b"--" => Word::End,
-        b"-h" => Word::Help,
-        b"--help" => Word::Help,
-        b"--version" => Word::Version,
-        _ => Word::Unknown,
+impl From<&[u8]> for Word {
+    // A lone hyphen is a name, that of standard input.
+    fn from(argument: &[u8]) -> Word {
+        match argument {
+            b"--" => Word::End,
+            b"-h" | b"--help" => Word::Help,
+            b"--version" => Word::Version,
+            [b'-', _, ..] => Word::Unknown,
+            _ => Word::Name,
+        }
     }
 }
 
 // How many arguments there are. The program's own name, at place 0, is one of them.
 pub fn count(arguments: &impl Env) -> usize {
     let mut room = [0u8; 1];
-    for i in 0..usize::MAX {
-        if let Err(FillError::NotPresent) = arguments.arg(i, &mut room) {
-            return i;
-        }
-    }
-    usize::MAX
+    (0..usize::MAX)
+        .find(|i| matches!(arguments.arg(*i, &mut room), Err(FillError::NotPresent)))
+        .unwrap_or(usize::MAX)
 }
 
-// How many bytes argument i has, which are put at the start of the room; 0 where they do not fit it.
-fn argument(arguments: &impl Env, i: usize, room: &mut [u8]) -> usize
-    ensures { result ≤ length room.new }
+// Argument i, which is put at the start of the room. std's `args` copies all arguments to the heap, and takes none that
+// is no text.
+pub fn argument<'a>(
+    arguments: &impl Env,
+    i: usize,
+    room: &'a mut [u8],
+) -> Result<&'a [u8], FillError>
+    ensures { IfOk result (λ word. length word.now ≤ length room.old) }
 {
-    match arguments.arg(i, room) {
-        Ok(n) => n,
-        Err(_) => 0,
-    }
+    let n = arguments.arg(i, room)?;
+    Ok(&room[..n])
 }
 
-pub fn asked_for(arguments: &impl Env) -> Asked {
-    let mut room = [0u8; 4096];
-    let count = count(arguments);
-    let mut i = 1;
-    while i < count {
-        let n = argument(arguments, i, &mut room);
-        match read_word(&room[..n]) {
-            Word::Help => return Asked::Help,
-            Word::Version => return Asked::Version,
-            Word::Unknown => return Asked::Unknown(i),
-            Word::End => return Asked::Work(i),
-            Word::Name => i += 1,
+impl Program<'_> {
+    // What the arguments ask for, and if they have an unknown option, that it is said. One that does not fit the room is a
+    // name.
+    pub fn asked_for(&self, arguments: &impl Env) -> Result<Asked, Failed> {
+        let mut room = [0u8; 4096];
+        for i in 1..count(arguments) {
+            let word = argument(arguments, i, &mut room).unwrap_or(b"");
+            match Word::from(word) {
+                Word::Help => return Ok(Asked::Help),
+                Word::Version => return Ok(Asked::Version),
+                Word::Unknown => return Err(self.unknown(word)),
+                Word::End => return Ok(Asked::Work(Some(i))),
+                Word::Name => {}
+            }
         }
+        Ok(Asked::Work(None))
     }
-    Asked::Work(count)
-}
-
-// Says that argument i is no option of the program.
-pub fn unknown(arguments: &impl Env, program: &Program, i: usize) {
-    let mut room = [0u8; 4096];
-    let n = argument(arguments, i, &mut room);
-    say(program, program.name);
-    say(program, b": unknown option ");
-    say(program, &room[..n]);
-    say(
-        program,
-        b"; --help lists the options, and ./NAME is a file\n",
-    );
 }

@@ -8,6 +8,7 @@ use Prim.Native.Nat.{ℕ, zero, suc, ◌+◌, ◌-◌, ◌*◌, ◌/◌, ◌%◌
 use native.Mathlib.Omega.{arith}
 use lib.{Dec.ltb, Dec.eqb, ListN.length, ListN.take, ListN.drop, ListN.length-drop, Seq.take_all, Seq.take-add, Seq.take_at, Seq.drop-drop, Seq.length-take-le}
 use borrow.Author.Tests.{eqb-true, lt-ltb, le-ltb}
+use Rattle.std.proofs.Common.{Ok, Err}
 use Rattle.numbers.specs.Numbers.{between}
 use Rattle.text.specs.{Digits.digit_of, Digits.capital_of, Plain.is_digit, Plain.all_digits, Plain.number_of, Plain.field_at, Written.two, Written.four, Written.written}
 use Rattle.numbers.proofs.BoolLaws.{both}
@@ -18,7 +19,7 @@ use Rattle.answer.specs.declared.answer.Answer.{Answer}
 use Rattle.readback.specs.Judge.{record_in, is_status, refuses_divide, outside, no_result, all_zeros, not_zero, judged, read_back}
 use Rattle.readback.specs.{Again.capital, Again.capitals, Again.line_of, Again.Typed, Quick.is_digits}
 use Rattle.readback.specs.declared.judge.Refusal.TheVariants.{Length, Digit, Status, Flags, NotZero}
-use Rattle.readback.specs.{declared.judge.Read.Read, declared.judge.Read.TheVariants.Record, declared.judge.Read.TheVariants.Refused}
+use Rattle.readback.specs.{Judge.Read}
 use Rattle.readback.proofs.NextLaws.{read-digits, read_other}
 
 -- a part of 18 digits is digits
@@ -28,26 +29,26 @@ digits_of line long h i m l = digits_within line 0 18 i m (ap all_digits (take_a
 -- ---- a record that was read
 
 abbrev is_record : Read → Bool
-is_record (Record a) = true
-is_record (Refused why) = false
+is_record (Ok a) = true
+is_record (Err why) = false
 
 abbrev record_of : Answer → Read → Answer
-record_of b (Record a) = a
-record_of b (Refused why) = b
+record_of b (Ok a) = a
+record_of b (Err why) = b
 
 -- what is judged good is the record itself
-judged_good : (a b : Answer) → judged a ≡ Record b → a ≡ b
+judged_good : (a b : Answer) → judged a ≡ Ok b → a ≡ b
 unfolding judged
 judged_good a b = by (not (is_status a.status)) (outside a.flags) (not_zero a)
   where
-    by : (s f z : Bool) → cond s (Refused Status) (cond f (Refused Flags) (cond z (Refused NotZero) (Record a))) ≡ Record b → a ≡ b
+    by : (s f z : Bool) → cond s (Err Status) (cond f (Err Flags) (cond z (Err NotZero) (Ok a))) ≡ Ok b → a ≡ b
     by true f z e = absurd (false≢true (ap is_record e))
     by false true z e = absurd (false≢true (ap is_record e))
     by false false true e = absurd (false≢true (ap is_record e))
     by false false false e = ap (record_of a) e
 
 -- a good line is 18 digits, and its record stands in it
-pub good_line : (line : List ℕ) (a : Answer) → read_back line ≡ Record a → (is_digits line ≡ true) × (record_in line ≡ a)
+pub good_line : (line : List ℕ) (a : Answer) → read_back line ≡ Ok a → (is_digits line ≡ true) × (record_in line ≡ a)
 good_line line a e = by (is_digits line) refl
   where
     by : (k : Bool) → is_digits line ≡ k → (is_digits line ≡ true) × (record_in line ≡ a)
@@ -55,7 +56,7 @@ good_line line a e = by (is_digits line) refl
     by false h = absurd (false≢true (ap is_record (sym (read_other line h) ∙ e)))
 
 -- no refusal fits it, and each field fits its type
-pub read_fits : (line : List ℕ) (a : Answer) → read_back line ≡ Record a → (judged a ≡ Record a) × Typed a
+pub read_fits : (line : List ℕ) (a : Answer) → read_back line ≡ Ok a → (judged a ≡ Ok a) × Typed a
 read_fits line a e =
     let g = good_line line a e in
     let d = both (eqb (length line) 18) (all_digits line) g.0 in
@@ -75,12 +76,12 @@ abbrev pub with_steps : ℕ → Answer → Answer
 with_steps k a = record { status = a.status; flags = a.flags; steps = k; r = a.r; s = a.s }
 
 -- they are not judged, but after 1 to 5
-pub steps_free : (a : Answer) (k : ℕ) → between 1 5 a.status ≡ false → judged a ≡ Record a → judged (with_steps k a) ≡ Record (with_steps k a)
+pub steps_free : (a : Answer) (k : ℕ) → between 1 5 a.status ≡ false → judged a ≡ Ok a → judged (with_steps k a) ≡ Ok (with_steps k a)
 unfolding judged
 steps_free a k = by (is_status a.status) (outside a.flags) (between 1 5 a.status) (refuses_divide a.status && not (no_result a)) (not (all_zeros a)) (not (all_zeros (with_steps k a)))
   where
-    by : (s f b z x y : Bool) → b ≡ false → cond (not s) (Refused Status) (cond f (Refused Flags) (cond ((b && x) || z) (Refused NotZero) (Record a))) ≡ Record a
-        → cond (not s) (Refused Status) (cond f (Refused Flags) (cond ((b && y) || z) (Refused NotZero) (Record (with_steps k a)))) ≡ Record (with_steps k a)
+    by : (s f b z x y : Bool) → b ≡ false → cond (not s) (Err Status) (cond f (Err Flags) (cond ((b && x) || z) (Err NotZero) (Ok a))) ≡ Ok a
+        → cond (not s) (Err Status) (cond f (Err Flags) (cond ((b && y) || z) (Err NotZero) (Ok (with_steps k a)))) ≡ Ok (with_steps k a)
     by s f true z x y e g = absurd (false≢true (sym e))
     by true false false false x y e g = refl
     by true false false true x y e g = absurd (false≢true (ap is_record g))
@@ -182,18 +183,18 @@ module _ (line : List ℕ) (long : length line ≡ 18) where
       field i l = four_part (take 4 (drop i line)) (size i 4 l) (digits_of line long h i 4 l)
 
 -- a good line, read and written again, is the same in capitals
-pub read_again : (line : List ℕ) (a : Answer) → read_back line ≡ Record a → text_by a ≡ capitals line ++ (0x0A ∷ [])
+pub read_again : (line : List ℕ) (a : Answer) → read_back line ≡ Ok a → text_by a ≡ capitals line ++ (0x0A ∷ [])
 read_again line a e =
     let g = good_line line a e in
     let d = both (eqb (length line) 18) (all_digits line) g.0 in
     sym (ap text_by g.1) ∙ written-capitals line (eqb-true (length line) 18 d.0) d.1
 
 -- so lines that are read as one record are the same in capitals
-pub one_line : (l m : List ℕ) (a : Answer) → read_back l ≡ Record a → read_back m ≡ Record a → capitals l ≡ capitals m
+pub one_line : (l m : List ℕ) (a : Answer) → read_back l ≡ Ok a → read_back m ≡ Ok a → capitals l ≡ capitals m
 one_line l m a el em =
     sym (take_at (capitals l) (0x0A ∷ []) 18 (eighteen l el)) ∙ ap (take 18) (sym (read_again l a el) ∙ read_again m a em) ∙ take_at (capitals m) (0x0A ∷ []) 18 (eighteen m em)
   where
-    eighteen : (line : List ℕ) → read_back line ≡ Record a → length (capitals line) ≡ 18
+    eighteen : (line : List ℕ) → read_back line ≡ Ok a → length (capitals line) ≡ 18
     eighteen line e = capitals_length line ∙ eqb-true (length line) 18 (both (eqb (length line) 18) (all_digits line) (good_line line a e).0).0
 
 -- ---- a line in capitals
@@ -244,7 +245,7 @@ read-capitals line =
       r = capitals_field 10 4 line i;
       s = capitals_field 14 4 line i;
     } in
-    λ i. cond (not (eqb (capitals_length line i) 18)) (Refused Length) (cond (not (capitals-digits line i)) (Refused Digit) (judged (same i)))
+    λ i. cond (not (eqb (capitals_length line i) 18)) (Err Length) (cond (not (capitals-digits line i)) (Err Digit) (judged (same i)))
 
 -- ---- a record, written and read
 
@@ -280,9 +281,9 @@ module _ (a : Answer) (typed : Typed a) where
       }
 
   -- a record that no refusal fits, written and read, is itself
-  pub written_read : judged a ≡ Record a → read_back (line_of a) ≡ Record a
+  pub written_read : judged a ≡ Ok a → read_back (line_of a) ≡ Ok a
   written_read good = read-digits (line_of a) line_digits ∙ ap judged line_record ∙ good
 
 -- so records that are written alike are one
-pub one-record : (a b : Answer) → Typed a → Typed b → judged a ≡ Record a → judged b ≡ Record b → text_by a ≡ text_by b → a ≡ b
+pub one-record : (a b : Answer) → Typed a → Typed b → judged a ≡ Ok a → judged b ≡ Ok b → text_by a ≡ text_by b → a ≡ b
 one-record a b ta tb ga gb e = ap (record_of a) (sym (written_read a ta ga) ∙ ap (λ (t : List ℕ). read_back (take 18 t)) e ∙ written_read b tb gb)

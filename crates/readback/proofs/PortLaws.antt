@@ -6,18 +6,18 @@ use Prim.Native.Nat.{ℕ, ◌<◌, ◌≤◌}
 use native.Mathlib.Omega.{arith}
 use lib.Dec.{leb, eqb, lit≤}
 use borrow.Author.Tests.{leb-true, eqb-true}
+use Rattle.std.proofs.Common.{Ok, Err}
 use Rattle.numbers.specs.{Numbers.between, Rows.OneOf}
 use Rattle.flags.specs.Word.{word_of, flags_of, is_flags}
 use Rattle.flags.proofs.WordLaws.{together_within}
-use Rattle.text.specs.{Fields.read_of, declared.fields.Read.Read}
-use Rattle.text.specs.declared.fields.Read.TheVariants.{Fields as OfFields, Length, Digit}
+use Rattle.text.specs.Fields.{Read, read_of}
+use Rattle.text.specs.declared.fields.Malformed.TheVariants.{Length, Digit}
 use Rattle.answer.specs.{Asked.zeros, Charted.refusal_status, Refused.Refusal, Refused.ZeroDivisor, Refused.TooWide, Refused.SignRange, Refused.refusal}
 use Rattle.answer.specs.declared.answer.Answer.{Answer}
 use Rattle.answer.proofs.Words.{Words, asked_words, zeros_words}
 use Rattle.line.specs.{One.raw_of, One.answer_by, One.answer_of, Table.raw_in}
 use Rattle.line.proofs.Table.{line_no_other, line_zeros, line_demand_1}
 use Rattle.readback.specs.{Judge.is_status, Judge.refuses_divide, Judge.no_result, Judge.all_zeros, Judge.not_zero, Judge.judged, Judge.read_back, Again.line_of, Again.Typed}
-use Rattle.readback.specs.declared.judge.Read.TheVariants.{Record}
 use Rattle.readback.proofs.{JudgeLaws.outside_is, AgainLaws.written_read}
 
 -- a status that there is, and zeros where they have to be
@@ -48,9 +48,9 @@ module _ (line : List ℕ) where
   words = by (read_of line)
     where
       by : (r : Read) → Words (answer_by r)
-      by (OfFields f) = asked_words (raw_of f)
-      by Length = zeros_words 1
-      by Digit = zeros_words 2
+      by (Ok f) = asked_words (raw_of f)
+      by (Err Length) = zeros_words 1
+      by (Err Digit) = zeros_words 2
 
   done : a.status ≡ 0 → Sound a
   done e = (ap is_status e, λ i. (between 1 5 (e i) && not (all_zeros a)) || (refuses_divide (e i) && not (no_result a)))
@@ -74,7 +74,7 @@ module _ (line : List ℕ) where
   sound (inr (inr (inr (inr (inr (inr (inr (inr (inr z))))))))) = absurd z
 
   -- no refusal fits it
-  pub answers_fit : judged a ≡ Record a
+  pub answers_fit : judged a ≡ Ok a
   unfolding judged
   answers_fit = let h = sound (line_no_other line) in rw (h.0, outside_is a.flags, words.0, h.1)
 
@@ -82,5 +82,5 @@ module _ (line : List ℕ) where
   typed = record { status = status_small a.status (sound (line_no_other line)).0; flags = flags_small a.flags words.0; steps = words.1; r = words.2; s = words.3 }
 
   -- what is written for it reads as it
-  pub answers_read : read_back (line_of a) ≡ Record a
+  pub answers_read : read_back (line_of a) ≡ Ok a
   answers_read = written_read a typed answers_fit

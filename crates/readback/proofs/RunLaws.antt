@@ -4,13 +4,13 @@ use Prim.Native.Nat.{ℕ, suc, ◌+◌, ◌*◌, ◌<◌, ◌≤◌}
 use native.Mathlib.Omega.{arith}
 use lib.{Dec.eqb, ListN.length, ListN.get_or, ListN.take, ListN.drop, ListN.length-take, ListN.length-drop, Seq.take-take, Seq.get_or-take, Seq.get_or-drop}
 use borrow.Author.Tests.{lt-ltb, eq-eqb}
+use Rattle.std.proofs.Common.{Ok, Some, None}
 use Rattle.text.specs.{Lines.line_length, Lines.line_at, Lines.takes, Lines.lines_of, Plain.all_digits, Written.written}
 use Rattle.numbers.proofs.BoolLaws.{both}
 use Rattle.text.proofs.DigitsAt.{part}
 use Rattle.line.specs.{One.answer_of, One.text_of, Run.done, Run.run_of}
 use Rattle.line.proofs.{Turns.text_of_length, Places.answer_at}
 use Rattle.readback.specs.{Again.line_of, Judge.read_back, Reader.next_at, Quick.ends_at}
-use Rattle.readback.specs.declared.reader.Handed.TheVariants.{Record as HandedRecord, End}
 use Rattle.readback.proofs.{LineLaws.has_18, LineLaws.by_digits, NextLaws.at_end, NextLaws.at_line, AgainLaws.good_line, PortLaws.answers_read}
 
 -- ---- one answer
@@ -49,7 +49,7 @@ module _ (text : List ℕ) (at : ℕ) (line : List ℕ) (there : take 19 (drop a
       ap all_digits first_18 ∙ (both (eqb (length (line_of a)) 18) (all_digits (line_of a)) (good_line (line_of a) a (answers_read line)).0).1 in
       has_18 text at (omega (arith, fits)) (sym (by_digits text at (omega (arith, fits)) (omega (arith, fits)) ends) ∙ all)
 
-  answer-next : {place : ℕ} → place ≡ at + 19 → next_at text at ≡ record { handed = HandedRecord (answer_of line); place = place }
+  answer-next : {place : ℕ} → place ≡ at + 19 → next_at text at ≡ record { handed = Some (Ok (answer_of line)); place = place }
   answer-next e =
       let read : line_at text at ≡ line_of (answer_of line) = ap (λ (k : ℕ). take k rest) has_digits ∙ first_18 in
       let more : 18 < length rest = omega (arith, fits, length-drop at text) in
@@ -61,8 +61,8 @@ module _ (text : List ℕ) (at : ℕ) (line : List ℕ) (there : take 19 (drop a
 -- of the bytes that a run wrote, a reader hands out the answer of line k at byte 19k, and goes to the next; behind the last it is the end
 pub run-read : (room : ℕ) (e : Bool) (t o bytes : List ℕ) (lines used : ℕ) → done bytes lines used ≡ run_of room e t o
     → (let answers = take (lines * 19) bytes in
-    ((k : ℕ) → k < lines → next_at answers (k * 19) ≡ record { handed = HandedRecord (answer_of (get_or (lines_of e t) k [])); place = suc k * 19 })
-    × (next_at answers (lines * 19) ≡ record { handed = End; place = lines * 19 }))
+    ((k : ℕ) → k < lines → next_at answers (k * 19) ≡ record { handed = Some (Ok (answer_of (get_or (lines_of e t) k []))); place = suc k * 19 })
+    × (next_at answers (lines * 19) ≡ record { handed = None; place = lines * 19 }))
 run-read room e t o bytes lines used ran =
     let answers = take (lines * 19) bytes in
     let there : (k : ℕ) → k < lines → take 19 (drop (k * 19) answers) ≡ text_of (get_or (lines_of e t) k []) =

@@ -2,12 +2,12 @@
 use mathlib.Core.{Path.◌≡◌, Path.refl, Path.sym, Path.subst, Path.◌∙◌, Bool.Bool, Bool.true, Bool.false, Bool.not, Bool.cond, List.List, List.[], List.◌∷◌, Logic.◌↔◌}
 use Prim.Native.Nat.{ℕ}
 use lib.{Dec.eqb, ListN.length}
+use Rattle.std.proofs.Common.{Ok, Err}
 use Rattle.text.specs.Plain.{all_digits}
 use Rattle.numbers.specs.Rows.{Given, OneOf}
 use Rattle.numbers.proofs.RowLaws.{first_of, first_given, first_one_of}
 use Rattle.readback.specs.{Judge.record_in, Judge.is_status, Judge.outside, Judge.not_zero, Judge.judged, Judge.read_back, Table.rows, Told.status_of}
 use Rattle.readback.specs.declared.judge.Refusal.TheVariants.{Length, Digit, Status, Flags, NotZero}
-use Rattle.readback.specs.declared.judge.Read.TheVariants.{Record, Refused}
 
 module _ (line : List ℕ) where
   first_row : status_of (read_back line) ≡ first_of (rows line)
@@ -15,7 +15,7 @@ module _ (line : List ℕ) where
   first_row = by (not (eqb (length line) 18)) (not (all_digits line)) (not (is_status (record_in line).status)) (outside (record_in line).flags) (not_zero (record_in line))
     where
       by : (l d s f z : Bool)
-          → status_of (cond l (Refused Length) (cond d (Refused Digit) (cond s (Refused Status) (cond f (Refused Flags) (cond z (Refused NotZero) (Record (record_in line)))))))
+          → status_of (cond l (Err Length) (cond d (Err Digit) (cond s (Err Status) (cond f (Err Flags) (cond z (Err NotZero) (Ok (record_in line)))))))
           ≡ cond l 30 (cond d 31 (cond s 32 (cond f 33 (cond z 34 0))))
       by true d s f z = refl
       by false true s f z = refl

@@ -7,23 +7,23 @@ use native.Mathlib.{Nat.le_refl, Omega.arith}
 use lib.{Dec.ltb, ListN.length, ListN.get_or, ListN.take, ListN.drop, ListN.length-drop, ListN.drop_of_length-le}
 use lib.Seq.{take-suc, drop-cons, take_all, split_at, drop-drop, drop-length}
 use borrow.Author.Tests.{ltb-true, ltb-false}
+use Rattle.std.proofs.Common.{Ok, Err, Some, None}
 use Rattle.text.specs.Lines.{line_length, line_at, takes, lines_of, bytes_in}
 use Rattle.text.proofs.{FoundLaws.feed_behind, NextLine.takes_within, NextLine.line_takes, NextLine.first_takes, NextLine.first_line, NextLine.bytes_more}
-use Rattle.readback.specs.{Judge.read_back, Reader.hand_out, Reader.next_at, Whole.place_after, declared.judge.Read.Read}
-use Rattle.readback.specs.{declared.judge.Read.TheVariants.Record, declared.judge.Read.TheVariants.Refused, declared.reader.BadLine.BadLine, declared.reader.Handed.Handed}
-use Rattle.readback.specs.declared.reader.Handed.TheVariants.{Record as HandedRecord, Bad, End}
+use Rattle.readback.specs.{Judge.read_back, Reader.hand_out, Reader.stepped, Reader.next_at, Whole.place_after, Judge.Read}
+use Rattle.readback.specs.{declared.reader.BadLine.BadLine, Reader.Handed}
 use Rattle.readback.specs.declared.reader.Stepped.{Stepped}
-use Rattle.readback.proofs.NextLaws.{stepped, at_end, at_line}
+use Rattle.readback.proofs.NextLaws.{at_end, at_line}
 
 abbrev is_bad : Handed → Bool
-is_bad (HandedRecord a) = false
-is_bad (Bad bad) = true
-is_bad End = false
+is_bad (Some (Ok a)) = false
+is_bad (Some (Err bad)) = true
+is_bad None = false
 
 abbrev bad_of : BadLine → Handed → BadLine
-bad_of other (HandedRecord a) = other
-bad_of other (Bad bad) = bad
-bad_of other End = other
+bad_of other (Some (Ok a)) = other
+bad_of other (Some (Err bad)) = bad
+bad_of other None = other
 
 module _ (text : List ℕ) where
   abbrev lines : List (List ℕ)
@@ -125,8 +125,8 @@ module _ (text : List ℕ) where
 
   -- where turn k tells of a bad line, it is line k, which starts at the byte that is told, behind the lines before it, and is refused for the reason
   -- that is told
-  pub told_start : (k : ℕ) → k < length lines → (bad : BadLine) → (next_at text (place_after text k)).handed ≡ Bad bad
-      → (bad.start ≡ bytes_in (take k lines)) × (line_at text bad.start ≡ get_or lines k []) × (read_back (get_or lines k []) ≡ Refused bad.why)
+  pub told_start : (k : ℕ) → k < length lines → (bad : BadLine) → (next_at text (place_after text k)).handed ≡ Some (Err bad)
+      → (bad.start ≡ bytes_in (take k lines)) × (line_at text bad.start ≡ get_or lines k []) × (read_back (get_or lines k []) ≡ Err bad.why)
   told_start k more bad e = by (read_back (get_or lines k [])) (sym (hands_out k more) ∙ e)
     where
       p : ℕ
@@ -135,15 +135,15 @@ module _ (text : List ℕ) where
       starts : p ≡ bytes_in (take k lines)
       starts = omega (arith, starts_there k (omega arith), some_here k more)
 
-      by : (r : Read) → hand_out r p ≡ Bad bad → (bad.start ≡ bytes_in (take k lines)) × (line_at text bad.start ≡ get_or lines k []) × (r ≡ Refused bad.why)
-      by (Record a) q = absurd (false≢true (ap is_bad q))
-      by (Refused why) q =
+      by : (r : Read) → hand_out r p ≡ Some (Err bad) → (bad.start ≡ bytes_in (take k lines)) × (line_at text bad.start ≡ get_or lines k []) × (r ≡ Err bad.why)
+      by (Ok a) q = absurd (false≢true (ap is_bad q))
+      by (Err why) q =
           let same : record { why = why; start = p } ≡ bad = ap (bad_of bad) q in
           let at : bad.start ≡ p = sym (ap (λ (b : BadLine). b.start) same) in
-          (at ∙ starts, ap (line_at text) at ∙ line_there k more, ap (λ (b : BadLine). Refused b.why) same)
+          (at ∙ starts, ap (line_at text) at ∙ line_there k more, ap (λ (b : BadLine). Err b.why) same)
 
   -- a text is read to its end in as many turns as it has lines
-  pub then_the_end : (place_after text (length lines) ≡ length text) × (next_at text (length text) ≡ record { handed = End; place = length text })
+  pub then_the_end : (place_after text (length lines) ≡ length text) × (next_at text (length text) ≡ record { handed = None; place = length text })
   then_the_end = (by (ltb p (length text)) refl, sym (at_end text (length text) (le_refl _)))
     where
       p : ℕ

@@ -1,13 +1,15 @@
 -- An answer line read back: the record that stands in it, what is refused, and the numbers of the refusals. Assumes nothing.
-use Rattle.std.specs.Prelude.{Bool, not, cond, ◌&&◌, ◌||◌, List, ℕ, leb, eqb, length}
+use Rattle.std.specs.Prelude.{Bool, not, cond, ◌&&◌, ◌||◌, List, Result, Ok, Err, ℕ, leb, eqb, length}
 use Rattle.std.specs.Int.Bits.{bit_and}
 use Rattle.numbers.specs.Numbers.{between}
 use Rattle.text.specs.Plain.{all_digits, field_at}
 use Rattle.answer.specs.declared.answer.Answer.{Answer}
 use Rattle.readback.specs.declared.judge.Refusal.{Refusal}
 use Rattle.readback.specs.declared.judge.Refusal.TheVariants.{Length, Digit, Status, Flags, NotZero}
-use Rattle.readback.specs.declared.judge.Read.{Read}
-use Rattle.readback.specs.declared.judge.Read.TheVariants.{Record, Refused}
+
+-- what is read of a line: its record, or why it is refused
+abbrev pub Read : Type 0
+Read = Result Answer Refusal
 
 -- status (2), flags (4), steps (4), R (4), S (4), the high digit first
 abbrev pub record_in : List ℕ → Answer
@@ -41,11 +43,11 @@ not_zero a = (between 1 5 a.status && not (all_zeros a)) || (refuses_divide a.st
 -- of a record: the status, then the flags, then the zeros. Steps are not judged, but that they are 0 after 1 to 5
 unfoldable pub judged : Answer → Read
 judged a =
-    cond (not (is_status a.status)) (Refused Status) (cond (outside a.flags) (Refused Flags) (cond (not_zero a) (Refused NotZero) (Record a)))
+    cond (not (is_status a.status)) (Err Status) (cond (outside a.flags) (Err Flags) (cond (not_zero a) (Err NotZero) (Ok a)))
 
 -- of a line, before these: its length, then its digits
 unfoldable pub read_back : List ℕ → Read
-read_back line = cond (not (eqb (length line) 18)) (Refused Length) (cond (not (all_digits line)) (Refused Digit) (judged (record_in line)))
+read_back line = cond (not (eqb (length line) 18)) (Err Length) (cond (not (all_digits line)) (Err Digit) (judged (record_in line)))
 
 -- the number of each
 abbrev pub refusal_status : Refusal → ℕ

@@ -7,7 +7,7 @@ use answer::answer::Answer;
 use flags::word::Flags;
 
 // In the order in which they are tested: 30 to 34. The first two are of a line.
-#[derive(Drop)]
+#[derive(Clone, Copy, Debug, PartialEq, Eq)]
 pub enum Refusal {
     Length,
     Digit,
@@ -16,12 +16,7 @@ pub enum Refusal {
     NotZero,
 }
 
-#[derive(Drop)]
-pub enum Read {
-    Record(Answer),
-    Refused(Refusal),
-}
-
+// The tests of this and the next are those of the definitions, in their words: a `matches!` is no plainer.
 fn is_status(status: u8) -> bool
     ensures { result ≡ is_status status }
 {
@@ -54,23 +49,25 @@ fn reason(a: Answer) -> Refusal
 
 // All three are looked at without a branch: statuses come in no order, and a guess at each would often be
 // wrong.
-pub fn judge(a: Answer) -> Read
+pub fn judge(a: Answer) -> Result<Answer, Refusal>
     ensures { result ≡ judged a }
 {
     if is_status(a.status) & Flags::is_flags(a.flags) & !not_zero(a) {
-        return Read::Record(a);
+        return Ok(a);
     }
-    Read::Refused(reason(a))
+    Err(reason(a))
 }
 
-pub fn refusal_status(refusal: Refusal) -> u8
-    ensures { result ≡ refusal_status refusal }
-{
-    match refusal {
-        Refusal::Length => 30,
-        Refusal::Digit => 31,
-        Refusal::Status => 32,
-        Refusal::Flags => 33,
-        Refusal::NotZero => 34,
+impl From<Refusal> for u8 {
+    fn from(refusal: Refusal) -> u8
+        ensures { result ≡ refusal_status refusal }
+    {
+        match refusal {
+            Refusal::Length => 30,
+            Refusal::Digit => 31,
+            Refusal::Status => 32,
+            Refusal::Flags => 33,
+            Refusal::NotZero => 34,
+        }
     }
 }

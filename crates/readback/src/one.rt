@@ -4,7 +4,7 @@ ghost use Rattle.text.specs.Plain.{all_digits};
 ghost use Rattle.readback.specs.Judge.{record_in, read_back};
 
 use crate::judge;
-use crate::judge::{Read, Refusal};
+use crate::judge::Refusal;
 use answer::answer::Answer;
 use text::hex;
 
@@ -26,14 +26,14 @@ pub fn record_at(text: &[u8], at: usize) -> Answer
     }
 }
 
-pub fn read_answer(line: &[u8]) -> Read
+pub fn read_answer(line: &[u8]) -> Result<Answer, Refusal>
     ensures { result ≡ read_back line.now }
 {
     if line.len() != DIGITS {
-        return Read::Refused(Refusal::Length);
+        return Err(Refusal::Length);
     }
     if !hex::all_digits(line, 0, DIGITS) {
-        return Read::Refused(Refusal::Digit);
+        return Err(Refusal::Digit);
     }
     judge::judge(record_at(line, 0))
 }

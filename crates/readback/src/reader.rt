@@ -1,10 +1,11 @@
 // A reader of many answer lines. It holds the text and its place in it, and hands out line after line.
-ghost use Rattle.std.specs.Prelude.{◌≡◌, false, ◌≤◌, ◌<◌, length};
+ghost use Rattle.std.specs.Prelude.{◌≡◌, ◌-◌, false, ◌≤◌, ◌<◌, length};
+ghost use Rattle.std.specs.Iterator.{at_most};
 ghost use Rattle.text.specs.Lines.{line_at};
-ghost use Rattle.readback.specs.Reader.{hand_out, next_at};
+ghost use Rattle.readback.specs.Reader.{next_at, stepped};
 ghost use Rattle.readback.specs.Quick.{is_digits, ends_at};
 
-use crate::judge::{Read, Refusal};
+use crate::judge::Refusal;
 use crate::{judge, one};
 use answer::answer::Answer;
 use text::{hex, lines};
@@ -16,32 +17,26 @@ pub struct Reader<'a> {
 }
 
 // Why a line is refused, and the byte of the text where it starts.
-#[derive(Drop)]
+#[derive(Clone, Copy, Debug, PartialEq, Eq)]
 pub struct BadLine {
     pub why: Refusal,
     pub start: usize,
 }
 
-#[derive(Drop)]
-pub enum Handed {
-    Record(Answer),
-    Bad(BadLine),
-    End,
-}
-
-// What is handed out, and the place of the next line.
+// What is handed out, nothing at the end, and the place of the next line.
 #[derive(Drop)]
 pub struct Stepped {
-    pub handed: Handed,
+    pub handed: Option<Result<Answer, BadLine>>,
     pub place: usize,
 }
 
-fn hand(read: Read, start: usize) -> Handed
-    ensures { result ≡ hand_out read start }
+// What was read of the line at `start`, and the place past it.
+fn step(read: Result<Answer, Refusal>, start: usize, place: usize) -> Stepped
+    ensures { result ≡ stepped read start place }
 {
-    match read {
-        Read::Record(a) => Handed::Record(a),
-        Read::Refused(why) => Handed::Bad(BadLine { why, start }),
+    Stepped {
+        handed: Some(read.map_err(|why| BadLine { why, start })),
+        place,
     }
 }
 
@@ -70,15 +65,6 @@ fn is_digits(text: &[u8], at: usize) -> bool
     hex::all_digits(text, at, one::DIGITS)
 }
 
-fn refused(why: Refusal, start: usize, place: usize) -> Stepped
-    ensures { result ≡ record { handed = hand_out (Read.Refused why) start; place = place } }
-{
-    Stepped {
-        handed: Handed::Bad(BadLine { why, start }),
-        place,
-    }
-}
-
 // The length of a line that is not 18 digits decides why it is refused.
 fn bad_line(text: &[u8], at: usize) -> Stepped
     requires at_in_bounds { at < length text.now }
@@ -86,11 +72,11 @@ fn bad_line(text: &[u8], at: usize) -> Stepped
     ensures { result ≡ next_at text.now at }
 {
     let end = lines::line_end(text, at);
-    let place = lines::next_start(at, end, text.len(), true);
+    let place = lines::next_start(at, end, text.len(), true).unwrap_or(at);
     if end - at == one::DIGITS {
-        return refused(Refusal::Digit, at, place);
+        return step(Err(Refusal::Digit), at, place);
     }
-    refused(Refusal::Length, at, place)
+    step(Err(Refusal::Length), at, place)
 }
 
 // The next line from `at` on. Nearly every line of a good text is 18 digits.
@@ -99,26 +85,29 @@ pub fn next_at(text: &[u8], at: usize) -> Stepped
 {
     if text.len() <= at {
         return Stepped {
-            handed: Handed::End,
+            handed: None,
             place: at,
         };
     }
     if !is_digits(text, at) {
         return bad_line(text, at);
     }
-    Stepped {
-        handed: hand(judge::judge(one::record_at(text, at)), at),
-        place: lines::next_start(at, at + one::DIGITS, text.len(), true),
-    }
+    let read = judge::judge(one::record_at(text, at));
+    let place = lines::next_start(at, at + one::DIGITS, text.len(), true).unwrap_or(at);
+    step(read, at, place)
 }
 
 // Hands out the next line, and moves the reader past it.
-pub fn next<'a>(r: &mut Reader<'a>) -> Handed
-    ensures { (result ≡ (next_at r.old.text.now r.old.at).handed)
-        × (r.new.text ≡ r.old.text)
-        × (r.new.at ≡ (next_at r.old.text.now r.old.at).place) }
-{
-    let o = next_at(r.text, r.at);
-    r.at = o.place;
-    o.handed
+impl<'a> Iterator for Reader<'a> {
+    type Item = Result<Answer, BadLine>;
+
+    ghost next_gives = { λ r given after. (given ≡ (next_at r.text.now r.at).handed) × (after.text ≡ r.text) × (after.at ≡ (next_at r.text.now r.at).place) };
+
+    ghost remaining = { λ r. at_most (length r.text.now - r.at) };
+
+    fn next(&mut self) -> Option<Result<Answer, BadLine>> {
+        let stepped = next_at(self.text, self.at);
+        self.at = stepped.place;
+        stepped.handed
+    }
 }

@@ -2,20 +2,20 @@
 ghost use Rattle.std.specs.Prelude.{◌≡◌};
 ghost use Rattle.readback.specs.Told.{status_of, record_left, turn, turn_by};
 
-use crate::judge;
-use crate::judge::Read;
-use crate::reader::{Handed, Stepped};
+use crate::judge::Refusal;
+use crate::reader::Stepped;
+use answer::answer::Answer;
 
-// Returns the status. The record goes in as five numbers; a refusal leaves them as they were.
-pub fn tell(read: Read, record: &mut [u16; 5]) -> u8
+// Returns the status, a number as C has it. The record goes in as five numbers; a refusal leaves them as they were.
+pub fn tell(read: Result<Answer, Refusal>, record: &mut [u16; 5]) -> u8
     ensures { (result ≡ status_of read) × («record».new ≡ record_left read «record».old) }
 {
     match read {
-        Read::Record(a) => {
+        Ok(a) => {
             *record = [a.status as u16, a.flags, a.steps, a.r, a.s];
             0
         }
-        Read::Refused(why) => judge::refusal_status(why),
+        Err(why) => u8::from(why),
     }
 }
 
@@ -29,20 +29,18 @@ pub fn tell_next(
 ) -> u8
     ensures { turn result place.new «record».new start.new ≡ turn_by stepped.handed stepped.place place.old «record».old start.old }
 {
-    let handed = stepped.handed;
-    match handed {
-        Handed::Record(a) => {
+    match stepped.handed {
+        Some(Ok(a)) => {
             *record = [a.status as u16, a.flags, a.steps, a.r, a.s];
             *start = *place;
             *place = stepped.place;
             0
         }
-        Handed::Bad(line) => {
-            let why = line.why;
+        Some(Err(line)) => {
             *start = line.start;
             *place = stepped.place;
-            judge::refusal_status(why)
+            u8::from(line.why)
         }
-        Handed::End => 255,
+        None => 255,
     }
 }

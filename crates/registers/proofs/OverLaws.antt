@@ -7,7 +7,8 @@ use borrow.Author.Tests.{eqb-true}
 use Rattle.numbers.specs.Numbers.{is_set}
 use Rattle.flags.specs.Word.{flags_of}
 use Rattle.request.specs.{Operation.ops, Operation.listed, Operation.mode_of, Operation.operation_of, Judge.raw, Judge.request_of, Judge.judged_by, Judge.judged, Limits.in_limits}
-use Rattle.request.specs.{Judge.Admitted, Judge.TooLarge, declared.decode.Decoded.TheVariants.Operation as Names, declared.decode.Decoded.TheVariants.WrongMode}
+use Rattle.std.specs.declared.result.Result.TheVariants.{Ok, Err}
+use Rattle.request.specs.{Judge.Admitted, Judge.TooLarge, declared.decode.Undecoded.TheVariants.WrongMode}
 use Rattle.request.specs.declared.operation.Operation.TheVariants.{Divide}
 use Rattle.answer.specs.{Charted.charted, Asked.of_judged, Asked.asked, declared.answer.Answer.Answer}
 use Rattle.answer.proofs.Width.{divided-fits}
@@ -35,7 +36,7 @@ divided_bytes mode w x y e = by_mode (ltb 0x07 mode)
     of_limits true = rw e (divided-fits 8 (is_set 1 mode) (is_set 2 mode) x y (flags_of w))
     of_limits false = (omega arith, omega arith)
 
-    by_mode : (m : Bool) → let a = of_judged (judged_by (cond m WrongMode (Names (Divide (mode_of mode)))) (raw 0x11 mode w x y)) in (a.r < 0x100) × (a.s < 0x100)
+    by_mode : (m : Bool) → let a = of_judged (judged_by (cond m (Err WrongMode) (Ok (Divide (mode_of mode)))) (raw 0x11 mode w x y)) in (a.r < 0x100) × (a.s < 0x100)
     by_mode true = (omega arith, omega arith)
     by_mode false = of_limits (in_limits (Divide (mode_of mode)) w x y)
 

@@ -5,5 +5,4 @@
 #![tactic(auto)]
 
 pub mod by_number;
-pub mod count;
 pub mod record;

@@ -1,10 +1,10 @@
 -- The records of a text one by one, and block by block. Assumes nothing.
 use mathlib.Core.{Path.◌≡◌, Path.refl, Path.ap, Path.◌∙◌, Bool.Bool, Bool.true, Bool.false, Bool.cond, List.List, List.[], List.◌∷◌, List.◌++◌}
-use Rattle.std.proofs.Common.{ℕ, suc, ◌+◌, ◌-◌, ◌%◌, ◌^◌, ◌<◌, ◌≤◌, le-ltb, lt-ltb}
-use native.Mathlib.{Nat.add-zero, Nat.zero-add, Omega.arith}
-use lib.{Dec.eqb, ListN.length, ListN.take, ListN.drop, ListN.length-append, ListN.length-drop, Seq.length-take-le, Seq.drop-drop}
-use Rattle.text.specs.Lines.{line_length, line_end, takes, with_byte, bytes_in}
-use Rattle.text.proofs.{LineLaws.end_within, NextLine.no_line, NextLine.first_line}
+use Rattle.std.proofs.Common.{ℕ, suc, ◌+◌, ◌%◌, ◌^◌, ◌<◌, ◌≤◌, le-ltb, lt-ltb}
+use native.Mathlib.{Nat.add-zero, Omega.arith}
+use lib.{Dec.eqb, ListN.length, ListN.take, ListN.drop, ListN.length-append}
+use Rattle.text.specs.Lines.{line_length, takes, with_byte, bytes_in}
+use Rattle.text.proofs.{NextLine.no_line, NextLine.first_line}
 use Rattle.replay.specs.{Record.right, Counted.records_in, Counted.wrong, Counted.count_on, declared.Replayed.Replayed}
 
 -- a line feed: one record, and then those behind it
@@ -34,39 +34,24 @@ abbrev pub count_from : ℕ → ℕ → ℕ → List ℕ → Replayed
 count_from used n d text =
     record { used = used + bytes_in (records_in text); records = (n + length (records_in text)) % 2 ^ 64; differ = (d + wrong (records_in text)) % 2 ^ 64 }
 
--- from the start of a block
-pub counts_whole : (n d : ℕ) (block : List ℕ) → count_from 0 n d block ≡ count_on (record { used = 0; records = n; differ = d }) block
-counts_whole n d block = rw (zero-add (bytes_in (records_in block)))
-
 -- a count that wraps may be taken in steps
 wraps : (a b k : ℕ) → ((a + b) % 2 ^ 64 + k) % 2 ^ 64 ≡ (a + (b + k)) % 2 ^ 64
 wraps a b k = omega arith
 
--- one record more: it runs from `start` to `end`, and w tells whether it is wrong
-pub counts_on : (block : List ℕ) (start end n d w : ℕ) → start ≤ length block → end ≡ line_end block start → (end ≡ length block → ⊥)
-    → w ≡ cond (right (take (end - start) (drop start block))) 0 1
-    → count_from (end + 1) ((n + 1) % 2 ^ 64) ((d + w) % 2 ^ 64) (drop (end + 1) block) ≡ count_from start n d (drop start block)
-counts_on block start end n d w inside is-end on is-w =
-    let rest = drop start block in
-    let k = line_length rest in
-    let feed : k < length rest = omega (arith, is-end, on, length-drop start block, end_within block start inside) in
-    let one : records_in rest ≡ take k rest ∷ records_in (drop (suc k) rest) = first_record rest feed in
-    let size : length (take k rest) ≡ k = length-take-le k rest (omega arith) in
-    let next : end + 1 ≡ start + suc k = omega (arith, is-end) in
-    let past : drop (end + 1) block ≡ drop (suc k) rest = rw (next, ← drop-drop) refl in
-    let part : end - start ≡ k = omega (arith, is-end) in
-    let told : w ≡ cond (right (take k rest)) 0 1 = rw part at is-w in
-    let rs = records_in (drop (suc k) rest) in
-    let bytes : end + 1 + bytes_in rs ≡ start + (suc k + bytes_in rs) = omega (arith, is-end) in
+-- one record more, and then those behind it; w tells whether it is wrong
+pub counts_on : (used n d w : ℕ) (text recorded behind : List ℕ) → records_in text ≡ recorded ∷ records_in behind → w ≡ cond (right recorded) 0 1
+    → count_from (used + suc (length recorded)) ((n + 1) % 2 ^ 64) ((d + w) % 2 ^ 64) behind ≡ count_from used n d text
+counts_on used n d w text recorded behind one told =
+    let rs = records_in behind in
+    let bytes : used + suc (length recorded) + bytes_in rs ≡ used + (suc (length recorded) + bytes_in rs) = omega arith in
     let counted : ((n + 1) % 2 ^ 64 + length rs) % 2 ^ 64 ≡ (n + suc (length rs)) % 2 ^ 64 = wraps n 1 (length rs) ∙ ap (λ (x : ℕ). (n + x) % 2 ^ 64) (omega arith) in
-    rw (past, one, size, told) (λ i. record { used = bytes i; records = counted i; differ = wraps d (cond (right (take k rest)) 0 1) (wrong rs) i })
+    rw (one, told) (λ i. record { used = bytes i; records = counted i; differ = wraps d (cond (right recorded) 0 1) (wrong rs) i })
 
 -- nothing is left to count
-pub counts_out : (used n d : ℕ) (text : List ℕ) → n < 2 ^ 64 → d < 2 ^ 64 → length text ≤ line_length text
-    → count_from used n d text ≡ record { used = used; records = n; differ = d }
+pub counts_out : (used n d : ℕ) (text : List ℕ) → n < 2 ^ 64 → d < 2 ^ 64 → records_in text ≡ [] → count_from used n d text ≡ record { used = used; records = n; differ = d }
 counts_out used n d text small_n small-d none =
     let same : (x : ℕ) → x < 2 ^ 64 → (x + 0) % 2 ^ 64 ≡ x = λ x h. omega arith in
-    rw (no_record text none) (λ i. record { used = add-zero used i; records = same n small_n i; differ = same d small-d i })
+    rw none (λ i. record { used = add-zero used i; records = same n small_n i; differ = same d small-d i })
 
 -- ---- block by block
 

@@ -2,12 +2,14 @@
 // record: the answer's 18 digits, a space, and the request as it was sent, up to the line feed.
 #![tactic(auto)]
 
-ghost use Rattle.std.specs.Prelude.{◌≡◌, ◌≤◌, length, take, drop, if◌then◌else◌};
+ghost use Rattle.std.specs.Prelude.{◌≡◌, ◌∷◌, [], ◌+◌, ◌-◌, ◌≤◌, length, take, drop, not, IfOk, IfSome, IsNone};
 ghost use Rattle.replay.specs.Record.{right};
-ghost use Rattle.replay.specs.Counted.{count_on};
+ghost use Rattle.replay.specs.Counted.{records_in, count_on};
 
+use program::input;
 use std::io;
-use std::io::{Read, Stdin, Stdout};
+use std::io::{Print, Stdin, Stdout};
+use std::ops::Range;
 
 // Where the request begins.
 const REQUEST: usize = 19;
@@ -26,24 +28,38 @@ fn same_answer(recorded: &[u8]) -> bool
 
 // Writes the bytes. Where that fails it is the count that tells.
 fn show(output: Stdout, bytes: &[u8]) {
-    let _ = Print::write_all(&output, bytes);
+    let _ = output.write_all(bytes);
 }
 
-// 1 where a record differs. It is shown, so that it can be tried by hand.
-fn differs(output: Stdout, recorded: &[u8]) -> u64
-    ensures { result ≡ (if right recorded.now then 0 else 1) }
+// Whether a record differs. It is shown then, so that it can be tried by hand.
+fn differs(output: Stdout, recorded: &[u8]) -> bool
+    ensures { result ≡ not (right recorded.now) }
 {
     if same_answer(recorded) {
-        return 0;
+        false
+    } else {
+        show(output, b"differs: ");
+        show(output, recorded);
+        show(output, b"\n");
+        true
     }
-    show(output, b"differs: ");
-    show(output, recorded);
-    show(output, b"\n");
-    1
+}
+
+// The first record of a text, without its line feed, and what stands behind it.
+fn split_record(text: &[u8]) -> Option<(&[u8], &[u8])>
+    ensures first { IfSome result (λ r. records_in text.now ≡ r.0.now ∷ records_in r.1.now) }
+    ensures size { IfSome result (λ r. length text.now ≡ length r.0.now + 1 + length r.1.now) }
+    ensures none { IsNone result → records_in text.now ≡ [] }
+{
+    let end = text::lines::line_end(text, 0);
+    if end == text.len() {
+        return None;
+    }
+    Some((&text[..end], &text[end + 1..]))
 }
 
 // What is done so far: bytes of the block, and over all blocks records and those that differ.
-#[derive(Drop)]
+#[derive(Clone, Copy, Debug, Default, PartialEq, Eq)]
 pub struct Replayed {
     pub used: usize,
     pub records: u64,
@@ -56,82 +72,35 @@ fn replay(output: Stdout, block: &[u8], before: Replayed) -> Replayed
 {
     let mut records = before.records;
     let mut differ = before.differ;
-    let mut start = 0;
-    while start < block.len() {
-        let end = text::lines::line_end(block, start);
-        if end == block.len() {
-            break;
-        }
-        records = std::num::wrapping_add_u64(records, 1);
-        differ = std::num::wrapping_add_u64(differ, differs(output, &block[start..end]));
-        start = end + 1;
+    let mut rest = block;
+    while let Some((recorded, behind)) = split_record(rest) {
+        records = records.wrapping_add(1);
+        differ = differ.wrapping_add(u64::from(differs(output, recorded)));
+        rest = behind;
     }
     Replayed {
-        used: start,
+        used: block.len() - rest.len(),
         records,
         differ,
     }
 }
 
-#[derive(Drop)]
-pub struct Kept {
-    pub kept: usize,
-    pub more: bool,
-    pub replayed: Replayed,
-}
-
-// Replays the first `have` bytes and keeps what is left of them.
-fn replay_block(
-    output: Stdout,
-    buffer: &mut [u8],
-    have: usize,
-    more: bool,
-    before: Replayed,
-) -> Kept
-    requires { have ≤ length buffer.old }
-    ensures kept_in_bounds { (result.kept ≤ length buffer.old) × (result.replayed ≡ count_on before (take have buffer.old)) }
-    ensures buffer_after { take result.kept buffer.new ≡ drop result.replayed.used (take have buffer.old) }
+// Replays a block, and says what is left of it.
+fn replay_block(output: Stdout, block: &[u8], replayed: &mut Replayed) -> Range<usize>
+    ensures counted { replayed.new ≡ count_on replayed.old block.now }
+    ensures left { (result.start ≡ replayed.new.used) × (result.start ≤ result.end) × (result.end ≡ length block.now) }
 {
-    let replayed = replay(output, &buffer[..have], before);
-    let used = replayed.used;
-    blocks::keep(buffer, used, have);
-    Kept {
-        kept: have - used,
-        more,
-        replayed,
-    }
+    *replayed = replay(output, block, *replayed);
+    replayed.used..block.len()
 }
 
-// Reads once behind the bytes that are kept, and replays what is there. A record that fills the buffer
-// ends the replay, as the end of the input does, and a read that fails.
-fn turn(mut input: Stdin, output: Stdout, buffer: &mut [u8], kept: usize, before: Replayed) -> Kept
-    requires { kept ≤ length buffer.old }
-    ensures { result.kept ≤ length buffer.old }
-{
-    match input.read(&mut buffer[kept..]) {
-        Ok(n) => replay_block(output, buffer, kept + n, n > 0, before),
-        Err(_) => replay_block(output, buffer, kept, false, before),
-    }
-}
-
-// A proved loop has to end, so the turns are counted down from a number that no run uses up.
-fn replay_all(input: Stdin, output: Stdout, buffer: &mut [u8]) -> Replayed {
-    let mut replayed = Replayed {
-        used: 0,
-        records: 0,
-        differ: 0,
-    };
-    let mut kept = 0;
-    let mut turns = u64::MAX;
-    while turns > 0 {
-        let done = turn(input, output, buffer, kept, replayed);
-        replayed = done.replayed;
-        if !done.more {
-            break;
-        }
-        kept = done.kept;
-        turns -= 1;
-    }
+// A record that fills the buffer ends the replay, as the end of the input does, and a read that fails.
+fn replay_all(mut input: Stdin, output: Stdout, buffer: &mut [u8]) -> Replayed {
+    let mut replayed = Replayed::default();
+    let step = |block: &[u8], _at_end: bool| -> io::Result<Range<usize>>
+        ensures { IfOk result (λ left. (left.start ≤ left.end) × (left.end ≤ length block.now)) }
+    { Ok(replay_block(output, block, &mut replayed)) };
+    let _ = input::each_block(&mut input, buffer, step);
     replayed
 }
 

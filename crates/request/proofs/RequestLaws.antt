@@ -12,9 +12,9 @@ use Rattle.request.specs.Limits.{x_most, y_most, in_limits, InRange}
 use Rattle.request.specs.{Judge.request_of, Judge.judged_by, Judge.judged, Judge.Judged, Judge.Admitted, Judge.TooLarge, declared.raw.Raw.Raw, declared.operation.Width.Width}
 use Rattle.request.specs.{declared.operation.Alu.Alu, declared.operation.Operation.Operation}
 use Rattle.request.specs.declared.operation.Operation.TheVariants.{Alu as OfAlu, Multiply as OfMultiply, Divide as OfDivide, Decimal as OfDecimal}
-use Rattle.request.specs.declared.decode.Decoded.{Decoded}
-use Rattle.request.specs.declared.decode.Decoded.TheVariants.{Operation as Names, Unlisted as NotListed, WrongMode}
-use Rattle.request.specs.{declared.decode.AluAt.AluAt, declared.decode.AluAt.TheVariants.Named, declared.decode.AluAt.TheVariants.Nothing, declared.raw.Request.Request}
+use Rattle.std.specs.{Prelude.unwrap_or, declared.option.Option.Option, declared.option.Option.TheVariants.Some, declared.option.Option.TheVariants.None, declared.result.Result.TheVariants.Ok, declared.result.Result.TheVariants.Err}
+use Rattle.request.specs.declared.decode.Undecoded.TheVariants.{Unlisted as NotListed, WrongMode}
+use Rattle.request.specs.{Operation.Decoded, declared.raw.Request.Request}
 
 -- ---- tests of every number below another, by computation
 
@@ -91,32 +91,30 @@ abbrev pub other_keys : List ℕ
 other_keys =
     0x80 ∷ 0x81 ∷ 0x82 ∷ 0x83 ∷ 0x84 ∷ 0x85 ∷ 0x86 ∷ 0x87 ∷ 0x88 ∷ 0x89 ∷ 0x8A ∷ 0x8B ∷ 0x8C ∷ 0x8D ∷ 0x8E ∷ 0x8F ∷ 0xC0 ∷ 0xC8 ∷ 0xD0 ∷ 0xD8 ∷ 0xE0 ∷ []
 
-abbrev is_nothing : AluAt → Bool
-is_nothing (Named alu w) = false
-is_nothing Nothing = true
+abbrev is_nothing : Option (Alu × Width) → Bool
+is_nothing (Some a) = false
+is_nothing None = true
 
-nothing : (a : AluAt) → is_nothing a ≡ true → Nothing ≡ a
-nothing (Named alu w) e = absurd (false≢true e)
-nothing Nothing e = refl
+nothing : (a : Option (Alu × Width)) → is_nothing a ≡ true → None ≡ a
+nothing (Some a) e = absurd (false≢true e)
+nothing None e = refl
 
 -- the same refusal
 abbrev pub same_refusal : Decoded → Decoded → Bool
-same_refusal NotListed NotListed = true
-same_refusal NotListed WrongMode = false
-same_refusal NotListed (Names o) = false
-same_refusal WrongMode WrongMode = true
-same_refusal WrongMode NotListed = false
-same_refusal WrongMode (Names o) = false
-same_refusal (Names o) n = false
+same_refusal (Err NotListed) (Err NotListed) = true
+same_refusal (Err NotListed) (Err WrongMode) = false
+same_refusal (Err WrongMode) (Err WrongMode) = true
+same_refusal (Err WrongMode) (Err NotListed) = false
+same_refusal (Err why) (Ok o) = false
+same_refusal (Ok o) n = false
 
 same : (m n : Decoded) → same_refusal m n ≡ true → m ≡ n
-same NotListed NotListed e = refl
-same NotListed WrongMode e = absurd (false≢true e)
-same NotListed (Names o) e = absurd (false≢true e)
-same WrongMode WrongMode e = refl
-same WrongMode NotListed e = absurd (false≢true e)
-same WrongMode (Names o) e = absurd (false≢true e)
-same (Names o) n e = absurd (false≢true e)
+same (Err NotListed) (Err NotListed) e = refl
+same (Err NotListed) (Err WrongMode) e = absurd (false≢true e)
+same (Err WrongMode) (Err WrongMode) e = refl
+same (Err WrongMode) (Err NotListed) e = absurd (false≢true e)
+same (Err why) (Ok o) e = absurd (false≢true e)
+same (Ok o) n e = absurd (false≢true e)
 
 -- the refusal of every op from one to another, by computation
 pub refuses : (r : Decoded) (start n : ℕ) → below (λ k. same_refusal r (operation_of (start + k) 0x08)) n ≡ true → (op : ℕ) → start ≤ op → op < start + n
@@ -126,7 +124,7 @@ refuses r start n h op l u =
     same r (operation_of op 0x08)
     (subst (λ (j : ℕ). same_refusal r (operation_of j 0x08) ≡ true) back (at (λ k. same_refusal r (operation_of (start + k) 0x08)) n h (op - start) (omega arith)))
 
-pub refuses_above : (op : ℕ) → 0x1D ≤ op → NotListed ≡ operation_of op 0x08
+pub refuses_above : (op : ℕ) → 0x1D ≤ op → Err NotListed ≡ operation_of op 0x08
 unfolding operation_of
 refuses_above op h = rw (← above op (omega arith))
 
@@ -150,30 +148,29 @@ pub at_alu : {key k : ℕ} → key ≡ k → alu_at k ≡ alu_at key
 at_alu e = ap alu_at (sym e)
 
 -- no ALU key: no ALU operation
-pub no_alu : (key : ℕ) → member key alu_keys ≡ false → Nothing ≡ alu_at key
+pub no_alu : (key : ℕ) → member key alu_keys ≡ false → None ≡ alu_at key
 unfolding alu_at operation_of
 no_alu key h = by (leb key 0xE7) refl
   where
-    by : (k : Bool) → leb key 0xE7 ≡ k → Nothing ≡ alu_at key
+    by : (k : Bool) → leb key 0xE7 ≡ k → None ≡ alu_at key
     by true e =
         nothing (alu_at key) (or_right (member key alu_keys) (is_nothing (alu_at key)) h (at alu_test 0xE8 alu_computed key (omega (arith, leb-true key 0xE7 e))))
     by false e = rw (← above (key / 8) (omega (arith, leb-false key 0xE7 e)))
 
 -- an ALU operation, told by its key
-pub alu_named : (n : Decoded) {a : Alu} {w : Width} → Named a w ≡ alu_only n → Names (OfAlu a w) ≡ n
-alu_named (Names (OfAlu alu v)) e = cc
-alu_named (Names (OfMultiply m)) e = absurd (let z : ◌≡◌ {A = ℕ} 0 1 = cc in omega arith)
-alu_named (Names (OfDivide m)) e = absurd (let z : ◌≡◌ {A = ℕ} 0 1 = cc in omega arith)
-alu_named (Names (OfDecimal d)) e = absurd (let z : ◌≡◌ {A = ℕ} 0 1 = cc in omega arith)
-alu_named NotListed e = absurd (let z : ◌≡◌ {A = ℕ} 0 1 = cc in omega arith)
-alu_named WrongMode e = absurd (let z : ◌≡◌ {A = ℕ} 0 1 = cc in omega arith)
+pub alu_named : (n : Decoded) {a : Alu} {w : Width} → Some (a, w) ≡ alu_only n → Ok (OfAlu a w) ≡ n
+alu_named (Ok (OfAlu alu v)) {a} {w} e = ap (λ (o : Option (Alu × Width)). let found = unwrap_or o (a, w) in Ok (OfAlu found.0 found.1)) e
+alu_named (Ok (OfMultiply m)) e = absurd (let z : ◌≡◌ {A = ℕ} 0 1 = cc in omega arith)
+alu_named (Ok (OfDivide m)) e = absurd (let z : ◌≡◌ {A = ℕ} 0 1 = cc in omega arith)
+alu_named (Ok (OfDecimal d)) e = absurd (let z : ◌≡◌ {A = ℕ} 0 1 = cc in omega arith)
+alu_named (Err why) e = absurd (let z : ◌≡◌ {A = ℕ} 0 1 = cc in omega arith)
 
-pub alu_at_lem : (op mode : ℕ) {a : Alu} {w : Width} → mode ≤ 0x07 → Named a w ≡ alu_at (op * 8 + mode) → Names (OfAlu a w) ≡ operation_of op mode
+pub alu_at_lem : (op mode : ℕ) {a : Alu} {w : Width} → mode ≤ 0x07 → Some (a, w) ≡ alu_at (op * 8 + mode) → Ok (OfAlu a w) ≡ operation_of op mode
 unfolding alu_at
 alu_at_lem op mode h e = alu_named (operation_of ((op * 8 + mode) / 8) ((op * 8 + mode) % 8)) e ∙ at_key op mode h refl
 
 -- no ALU operation and no other key: refused
-pub no_other : (op mode : ℕ) → mode ≤ 0x07 → Nothing ≡ alu_at (op * 8 + mode) → member (op * 8 + mode) other_keys ≡ false
+pub no_other : (op mode : ℕ) → mode ≤ 0x07 → None ≡ alu_at (op * 8 + mode) → member (op * 8 + mode) other_keys ≡ false
     → operation_of op 0x08 ≡ operation_of op mode
 unfolding operation_of
 no_other op mode h a o = by (leb op 0x1C) refl
@@ -186,7 +183,7 @@ no_other op mode h a o = by (leb op 0x1C) refl
         let refused = operation_of (key / 8) 0x08 in
         let found = operation_of (key / 8) (key % 8) in
         let t = at other_test 0xE8 other_computed key (omega (arith, leb-true op 0x1C e)) in
-        let u = or_right (not (is_nothing (alu_at key))) (member key other_keys || same_refusal refused found) (ap (λ (b : AluAt). not (is_nothing b)) (sym a)) t in
+        let u = or_right (not (is_nothing (alu_at key))) (member key other_keys || same_refusal refused found) (ap (λ (b : Option (Alu × Width)). not (is_nothing b)) (sym a)) t in
         ap (λ (q : ℕ). operation_of q 0x08) (omega arith) ∙ same refused found (or_right (member key other_keys) (same_refusal refused found) o u) ∙ at_key op mode h refl
     by false e = rw (← above op (leb-false op 0x1C e))
 
@@ -212,6 +209,6 @@ admitted_in_range given {r = r} e told = by (operation_of given.op given.mode) (
     tested o false ea e = let z : ◌≡◌ {A = ℕ} 0 1 = cc in absurd (omega arith)
 
     by : (n : Decoded) → Admitted r ≡ judged_by n given → InRange r.operation r.x r.y
-    by (Names o) e = tested o (in_limits o given.flags given.x given.y) refl e
-    by NotListed e = let z : ◌≡◌ {A = ℕ} 0 1 = cc in absurd (omega arith)
-    by WrongMode e = let z : ◌≡◌ {A = ℕ} 0 1 = cc in absurd (omega arith)
+    by (Ok o) e = tested o (in_limits o given.flags given.x given.y) refl e
+    by (Err NotListed) e = let z : ◌≡◌ {A = ℕ} 0 1 = cc in absurd (omega arith)
+    by (Err WrongMode) e = let z : ◌≡◌ {A = ℕ} 0 1 = cc in absurd (omega arith)

@@ -1,10 +1,9 @@
 -- The judging of a raw request: 3 op not listed, 4 wrong mode, 5 X or Y too large or a flag outside 08D5, in that order.
 -- Assumes nothing.
-use Rattle.std.specs.Prelude.{cond, ℕ}
+use Rattle.std.specs.Prelude.{cond, Ok, Err, ℕ}
 use Rattle.request.specs.declared.operation.Operation.{Operation}
-use Rattle.request.specs.declared.decode.Decoded.{Decoded}
-use Rattle.request.specs.declared.decode.Decoded.TheVariants.{Operation as Names, Unlisted as NotListed, WrongMode as BadMode}
-use Rattle.request.specs.Operation.{operation_of}
+use Rattle.request.specs.declared.decode.Undecoded.TheVariants.{Unlisted as NotListed, WrongMode as BadMode}
+use Rattle.request.specs.Operation.{Decoded, operation_of}
 use Rattle.request.specs.Limits.{in_limits}
 use Rattle.request.specs.declared.raw.Raw.{Raw}
 use Rattle.request.specs.declared.raw.Request.{Request}
@@ -26,9 +25,9 @@ request_of operation r = record { operation = operation; flags = r.flags; x = r.
 
 -- status 5 where something is too large
 abbrev pub judged_by : Decoded → Raw → Judged
-judged_by (Names operation) r = cond (in_limits operation r.flags r.x r.y) (Admitted (request_of operation r)) TooLarge
-judged_by NotListed r = Unlisted
-judged_by BadMode r = WrongMode
+judged_by (Ok operation) r = cond (in_limits operation r.flags r.x r.y) (Admitted (request_of operation r)) TooLarge
+judged_by (Err NotListed) r = Unlisted
+judged_by (Err BadMode) r = WrongMode
 
 -- by op and mode, then by the limits
 unfoldable pub judged : Raw → Judged

@@ -1,5 +1,5 @@
 -- The ops and modes of the scope, and the operation that they name. Assumes nothing.
-use Rattle.std.specs.Prelude.{Bool, cond, List, [], ◌∷◌, ℕ, ◌/◌, ◌%◌, eqb, ltb}
+use Rattle.std.specs.Prelude.{Bool, cond, Option, Some, None, Result, Ok, Err, List, [], ◌∷◌, ℕ, ◌/◌, ◌%◌, eqb, ltb}
 use Rattle.numbers.specs.Numbers.{is_set}
 use Rattle.request.specs.declared.operation.Width.{Width}
 use Rattle.request.specs.declared.operation.Width.TheVariants.{Byte, Word}
@@ -9,10 +9,9 @@ use Rattle.request.specs.declared.operation.Alu.TheVariants.{Add, Adc, Sub, Sbb,
 use Rattle.request.specs.declared.operation.Decimal.{Decimal}
 use Rattle.request.specs.declared.operation.Decimal.TheVariants.{Aaa, Aas, Aad, Daa, Das}
 use Rattle.request.specs.declared.operation.Operation.TheVariants.{Alu as OfAlu, Multiply as OfMultiply, Divide as OfDivide, Decimal as OfDecimal}
-use Rattle.request.specs.declared.decode.Decoded.{Decoded}
-use Rattle.request.specs.declared.decode.Decoded.TheVariants.{Operation as Names, Unlisted as NotListed, WrongMode}
-use Rattle.request.specs.declared.decode.AluAt.{AluAt}
-use Rattle.request.specs.declared.decode.AluAt.TheVariants.{Named, Nothing}
+use Rattle.request.specs.declared.operation.Operation.{Operation}
+use Rattle.request.specs.declared.decode.Undecoded.{Undecoded}
+use Rattle.request.specs.declared.decode.Undecoded.TheVariants.{Unlisted as NotListed, WrongMode}
 
 -- what an op alone names
 pub data Listed : Type 0 where
@@ -64,33 +63,36 @@ width_of mode = cond (is_set 0 mode) Word Byte
 abbrev pub mode_of : ℕ → Mode
 mode_of mode = record { width = width_of mode; signed = is_set 1 mode; rep = is_set 2 mode }
 
+-- the operation that is named, or why there is none
+abbrev pub Decoded : Type 0
+Decoded = Result Operation Undecoded
+
 -- an op that is not listed comes before a wrong mode; the ALU operations have a width, multiply and divide a sign rule and REP besides, the
 -- adjusts nothing
 abbrev pub checked : Listed → ℕ → Decoded
-checked (AluOp alu) mode = cond (ltb 0x01 mode) WrongMode (Names (OfAlu alu (width_of mode)))
-checked Multiply mode = cond (ltb 0x07 mode) WrongMode (Names (OfMultiply (mode_of mode)))
-checked Divide mode = cond (ltb 0x07 mode) WrongMode (Names (OfDivide (mode_of mode)))
-checked (DecimalOp decimal) mode = cond (ltb 0x00 mode) WrongMode (Names (OfDecimal decimal))
-checked Unlisted mode = NotListed
+checked (AluOp alu) mode = cond (ltb 0x01 mode) (Err WrongMode) (Ok (OfAlu alu (width_of mode)))
+checked Multiply mode = cond (ltb 0x07 mode) (Err WrongMode) (Ok (OfMultiply (mode_of mode)))
+checked Divide mode = cond (ltb 0x07 mode) (Err WrongMode) (Ok (OfDivide (mode_of mode)))
+checked (DecimalOp decimal) mode = cond (ltb 0x00 mode) (Err WrongMode) (Ok (OfDecimal decimal))
+checked Unlisted mode = Err NotListed
 
 -- what op and mode name
 unfoldable pub operation_of : ℕ → ℕ → Decoded
 operation_of op mode = checked (listed op) mode
 
 -- for the code, which takes op and mode as one number, op * 8 + mode: the ALU operation there
-abbrev pub alu_only : Decoded → AluAt
-alu_only (Names (OfAlu alu w)) = Named alu w
-alu_only (Names (OfMultiply m)) = Nothing
-alu_only (Names (OfDivide m)) = Nothing
-alu_only (Names (OfDecimal d)) = Nothing
-alu_only NotListed = Nothing
-alu_only WrongMode = Nothing
+abbrev pub alu_only : Decoded → Option (Alu × Width)
+alu_only (Ok (OfAlu alu w)) = Some (alu, w)
+alu_only (Ok (OfMultiply m)) = None
+alu_only (Ok (OfDivide m)) = None
+alu_only (Ok (OfDecimal d)) = None
+alu_only (Err why) = None
 
-unfoldable pub alu_at : ℕ → AluAt
+unfoldable pub alu_at : ℕ → Option (Alu × Width)
 alu_at key = alu_only (operation_of (key / 8) (key % 8))
 
 abbrev pub multiplies : Width → Bool → Bool → Decoded
-multiplies w signed rep = Names (OfMultiply (record { width = w; signed = signed; rep = rep }))
+multiplies w signed rep = Ok (OfMultiply (record { width = w; signed = signed; rep = rep }))
 
 abbrev pub divides : Width → Bool → Bool → Decoded
-divides w signed rep = Names (OfDivide (record { width = w; signed = signed; rep = rep }))
+divides w signed rep = Ok (OfDivide (record { width = w; signed = signed; rep = rep }))

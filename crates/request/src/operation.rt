@@ -1,19 +1,19 @@
 // The operations. Each holds its own width, and multiply and divide their sign rule and REP.
-#[derive(Clone, Copy)]
+#[derive(Clone, Copy, Debug, PartialEq, Eq)]
 pub enum Width {
     Byte,
     Word,
 }
 
 // The mode of a multiply or divide. `rep` says that a REP prefix stood before it.
-#[derive(Clone, Copy)]
+#[derive(Clone, Copy, Debug, PartialEq, Eq)]
 pub struct Mode {
     pub width: Width,
     pub signed: bool,
     pub rep: bool,
 }
 
-#[derive(Clone, Copy)]
+#[derive(Clone, Copy, Debug, PartialEq, Eq)]
 pub enum Alu {
     Add,
     Adc,
@@ -30,7 +30,7 @@ pub enum Alu {
     ShlAf,
 }
 
-#[derive(Clone, Copy)]
+#[derive(Clone, Copy, Debug, PartialEq, Eq)]
 pub enum Decimal {
     Aaa,
     Aas,
@@ -39,7 +39,7 @@ pub enum Decimal {
     Das,
 }
 
-#[derive(Clone, Copy)]
+#[derive(Clone, Copy, Debug, PartialEq, Eq)]
 pub enum Operation {
     Alu(Alu, Width),
     Multiply(Mode),

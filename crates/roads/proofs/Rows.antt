@@ -1,10 +1,9 @@
 -- The table's rows of a divide, and what they make of its roads. Assumes nothing.
-use mathlib.Core.{Path.◌≡◌, Path.refl, Path.sym, Path.ap, Path.◌∙◌, Bool.Bool, Bool.true, Bool.false, Bool.not, Bool.cond, Bool.◌||◌, List.[], List.◌∷◌}
+use mathlib.Core.{Path.◌≡◌, Path.refl, Path.sym, Path.ap, Path.◌∙◌, Bool.Bool, Bool.true, Bool.false, Bool.not, Bool.cond, Bool.◌||◌, Logic.◌⊎◌, Logic.inl, Logic.inr, List.[], List.◌∷◌}
 use Prim.Native.Nat.{ℕ, ◌+◌, ◌^◌, ◌≤◌, ◌<◌}
-use native.Mathlib.Omega.{arith}
 use lib.{Bits.bit_and, Dec.ltb, Dec.eqb}
-use borrow.Author.Tests.{ltb-false}
-use Rattle.numbers.proofs.{BoolLaws.neither, Masks.mask_bit, Masks.set_masked, Masks.set_unmasked}
+use borrow.Author.Tests.{lt-ltb}
+use Rattle.numbers.proofs.{Masks.mask_bit, Masks.set_masked, Masks.set_unmasked}
 use Rattle.numbers.specs.Numbers.{is_set}
 use Rattle.flags.specs.{Word.flags_of, declared.word.Flags.Flags}
 use Rattle.cord.specs.Cord.{no_roads}
@@ -57,24 +56,23 @@ module _ (mode x y : ℕ) where
 
 -- ---- how the code tells it, by the width that the mode names
 
--- operands within the limits fit eight bits
-pub byte_fits : {x y : ℕ} → ltb 0xFFFF x || ltb 0xFF y ≡ false → (x < 2 ^ 16) × (y < 2 ^ 8)
-byte_fits {x} {y} e =
-    let fit = neither (ltb 0xFFFF x) (ltb 0xFF y) e in
-    (omega (arith, ltb-false 0xFFFF x fit.0), omega (arith, ltb-false 0xFF y fit.1))
+or_true : (k : Bool) → k || true ≡ true
+or_true true = refl
+or_true false = refl
 
 module _ (mode x y : ℕ) (hm : mode ≤ 0x07) where
   -- sixteen bits have room for every operand
-  pub told-word : (bit_and mode 0x01 ≡ 0 → ⊥) → x < 2 ^ 32 → y < 2 ^ 16 → told_by 16 (not (eqb (bit_and mode 0x02) 0)) x y ≡ roads_told mode x y
-  told-word h hx hy =
+  pub told_word : (bit_and mode 0x01 ≡ 0 → ⊥) → x < 2 ^ 32 → y < 2 ^ 16 → told_by 16 (not (eqb (bit_and mode 0x02) 0)) x y ≡ roads_told mode x y
+  told_word h hx hy =
       let wide = set_masked 0 mode h in
       ap (λ (s : Bool). told_by 16 s x y) (mask_bit 1 mode) ∙ sym (told_admitted mode x y hm (rw wide hx) (rw wide hy) ∙ rw wide)
 
   module _ (h : bit_and mode 0x01 ≡ 0) where
-    pub told_byte_large : ltb 0xFFFF x || ltb 0xFF y ≡ true → tallied 5 (0 ∷ 0 ∷ []) ≡ roads_told mode x y
-    told_byte_large e = sym (told_large mode x y hm (rw (set_unmasked 0 mode h) e))
+    pub told_byte_large : (0xFFFF < x) ⊎ (0xFF < y) → tallied 5 (0 ∷ 0 ∷ []) ≡ roads_told mode x y
+    told_byte_large (inl e) = sym (told_large mode x y hm (rw (set_unmasked 0 mode h, lt-ltb 0xFFFF x e)))
+    told_byte_large (inr e) = sym (told_large mode x y hm (rw (set_unmasked 0 mode h, lt-ltb 0xFF y e) (or_true (ltb 0xFFFF x))))
 
-    pub told-byte : x < 2 ^ 16 → y < 2 ^ 8 → told_by 8 (not (eqb (bit_and mode 0x02) 0)) x y ≡ roads_told mode x y
-    told-byte hx hy =
+    pub told_byte : x < 2 ^ 16 → y < 2 ^ 8 → told_by 8 (not (eqb (bit_and mode 0x02) 0)) x y ≡ roads_told mode x y
+    told_byte hx hy =
         let narrow = set_unmasked 0 mode h in
         ap (λ (s : Bool). told_by 8 s x y) (mask_bit 1 mode) ∙ sym (told_admitted mode x y hm (rw narrow hx) (rw narrow hy) ∙ rw narrow)

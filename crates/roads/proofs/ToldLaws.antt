@@ -1,18 +1,20 @@
 -- What is told of a divide at the width n: the status of its refusal with no roads, or the roads of CORD's walk over the magnitudes. Assumes
 -- nothing.
-use mathlib.Core.{Path.◌≡◌, Path.refl, Path.sym, Path.ap, Path.subst, Path.◌∙◌, Bool.Bool, Bool.true, Bool.false, Bool.not, Bool.cond, Bool.◌||◌, Bool.false≢true}
-use mathlib.Core.{Logic.◌⊎◌, Logic.inl, Logic.inr, List.[], List.◌∷◌}
-use Prim.Native.Nat.{ℕ, ◌+◌, ◌*◌, ◌/◌, ◌%◌, ◌^◌, ◌≤◌, ◌<◌}
-use native.Mathlib.{Nat.div-add-mod', Omega.arith}
+use mathlib.Core.{Path.◌≡◌, Path.refl, Path.sym, Path.ap, Path.◌∙◌, Bool.Bool, Bool.true, Bool.false, Bool.not, Bool.cond, Bool.◌||◌, Bool.false≢true}
+use mathlib.Core.{List.[], List.◌∷◌}
+use Prim.Native.Nat.{ℕ, ◌+◌, ◌/◌, ◌^◌, ◌<◌}
+use native.Mathlib.{Omega.arith}
 use borrow.Author.Tests.{ltb-true, ltb-false, le-leb, lt-leb, eq-eqb, ne_eqb}
 use lib.Dec.{leb, ltb}
-use Rattle.cord.specs.Cord.{CordAnswer, cord}
+use Rattle.cord.specs.Cord.{cord}
 use Rattle.divide.specs.Divide.{accepts, applies, refusal_of, dividend_of, divisor_of, at_first, accepted_roads, divide}
 use Rattle.divide.specs.declared.div.Refusal.{Refusal}
 use Rattle.divide.specs.declared.div.Refusal.TheVariants.{ZeroDivisor, TooWide, SignRange}
 use Rattle.divide.proofs.{DivLaws.compared_first, DivLaws.first_refusal_lem, DivLaws.later_refusal, DivLaws.known, Refusals.three_cover}
 use Rattle.answer.specs.Charted.{refusal_status}
-use Rattle.roads.specs.Told.{Tallied, tallied, listed, told_by}
+use Rattle.std.specs.declared.result.Result.{Result}
+use Rattle.std.specs.declared.result.Result.TheVariants.{Ok, Err}
+use Rattle.roads.specs.Told.{Tallied, tallied, listed, judged_by, told_by}
 
 told_status : {t u : Tallied} → t ≡ u → t.status ≡ u.status
 told_status e = ap (λ (w : Tallied). w.status) e
@@ -64,6 +66,37 @@ module _ (n : ℕ) (s : Bool) (d b : ℕ) where
       by true x = absurd (h (e ∙ told_status (accepted_told x)))
       by false x = ap (λ (j : ℕ). tallied j (0 ∷ 0 ∷ [])) (e ∙ told_status (refused-told x)) ∙ sym (refused-told x)
 
+-- ---- whether the chip refuses, and why
+
+-- the reason of a refusal
+abbrev reason : Refusal → Result Unit Refusal → Refusal
+reason other (Ok u) = other
+reason other (Err why) = why
+
+abbrev refuses : Result Unit Refusal → Bool
+refuses (Ok u) = false
+refuses (Err why) = true
+
+-- accepted or not
+abbrev either : Bool → Refusal → Result Unit Refusal
+either accepted why = cond accepted (Ok tt) (Err why)
+
+-- the chip refuses for a reason, which is told with no roads
+pub judged_refused : (n : ℕ) (s : Bool) (d b : ℕ) {why : Refusal} → Err why ≡ judged_by n s d b → tallied (refusal_status why) (0 ∷ 0 ∷ []) ≡ told_by n s d b
+judged_refused n s d b {why} e = by (accepts n s d b) refl e
+  where
+    by : (x : Bool) → accepts n s d b ≡ x → Err why ≡ either x (refusal_of n s d b) → tallied (refusal_status why) (0 ∷ 0 ∷ []) ≡ told_by n s d b
+    by true x e = absurd (false≢true (sym (ap refuses e)))
+    by false x e = ap (λ (w : Refusal). tallied (refusal_status w) (0 ∷ 0 ∷ [])) (ap (reason why) e) ∙ sym (refused-told n s d b x)
+
+-- the chip accepts, and the status is 0
+judged_accepted : (n : ℕ) (s : Bool) (d b : ℕ) → Ok tt ≡ judged_by n s d b → 0 ≡ (told_by n s d b).status
+judged_accepted n s d b e = by (accepts n s d b) refl e
+  where
+    by : (x : Bool) → accepts n s d b ≡ x → Ok tt ≡ either x (refusal_of n s d b) → 0 ≡ (told_by n s d b).status
+    by true x e = told_status (sym (accepted_told n s d b x))
+    by false x e = absurd (false≢true (ap refuses e))
+
 -- the comparison of magnitudes with no sign is CORD's first compare
 first_compare : (x y : ℕ) → not (ltb x y) ≡ leb y x
 first_compare x y = by (ltb x y) refl
@@ -108,19 +141,6 @@ module _ (n : ℕ) (s : Bool) (d b : ℕ) (hn : 0 < n) (hd : d < 2 ^ (n + n)) (h
       by true x = rw (passed x) (sym (accepted_told n s d b x))
       by false x = absurd (never_zero (refusal_of n s d b) (told_status (sym (refused-told n s d b x)) ∙ sym e ∙ h))
 
--- ---- from what the code calls
-
--- either width lies within the limits of what is called
-pub either_width : {n : ℕ} → (n ≡ 8) ⊎ (n ≡ 16) → (8 ≤ n) × (n ≤ 16)
-either_width (inl e) = (omega arith, omega arith)
-either_width (inr e) = (omega arith, omega arith)
-
--- numbers of the width m, where that is n
-pub of_width : {m n : ℕ} → m ≡ n → {x y : ℕ} → x < 2 ^ (m + m) → y < 2 ^ m → (x < 2 ^ (n + n)) × (y < 2 ^ n)
-of_width e {x} {y} hx hy = (subst (λ (k : ℕ). x < 2 ^ (k + k)) e hx, subst (λ (k : ℕ). y < 2 ^ k) e hy)
-
--- CORD's answer on the two halves of a number has its roads
-pub walked : (n whole tmpb : ℕ) {a : CordAnswer} → a ≡ cord n tmpb (whole / 2 ^ n * 2 ^ n + whole % 2 ^ n) 0 → {m : ℕ} → m ≡ n
-    → tallied 0 (listed a.roads) ≡ tallied 0 (listed (cord m tmpb whole 0).roads)
-walked n whole tmpb ea em =
-    ap (λ (a : CordAnswer). tallied 0 (listed a.roads)) (ea ∙ λ i. cord (sym em i) tmpb (div-add-mod' whole (2 ^ n) i) 0)
+  -- an accepted divide is told with the roads of CORD's walk
+  pub judged_walked : Ok tt ≡ judged_by n s d b → {whole tmpb : ℕ} → whole ≡ dividend_of n s d → tmpb ≡ divisor_of n s b → tallied 0 (listed (cord n tmpb whole 0).roads) ≡ told_by n s d b
+  judged_walked e = told_accepted (judged_accepted n s d b e) refl

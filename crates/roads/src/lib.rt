@@ -1,27 +1,50 @@
 // Counts the ones of a divide's quotient by the two roads that make one: a bit shifted out, and no borrow. The
-// divide is given as numbers that no caller has checked. An invalid mode or operand is refused with its status,
-// and so is a divide that the chip refuses. The comparison of `trap` refuses before CORD walks.
-// CORD is called here, and not `div8` and `div16`. With a second caller the compiler would no longer inline
-// those two into `ask`, and every divide would take longer.
+// divide is given as numbers that no caller has checked. The comparison of `trap` refuses before CORD walks.
+// CORD is called here, and not `div`. With a second caller the compiler would no longer inline it into `ask`, and
+// every divide would take longer.
 #![tactic(auto)]
 
-ghost use Rattle.std.specs.Prelude.{◌≡◌, ◌⊎◌, [], ◌∷◌, ◌+◌, ◌^◌, ◌≤◌, ◌<◌};
+pub mod told;
+
+ghost use Rattle.std.specs.Prelude.{◌≡◌, ◌+◌, ◌^◌, ◌≤◌, ◌<◌};
 ghost use Rattle.numbers.specs.Numbers.{magnitude};
 ghost use Rattle.cord.specs.Cord.{cord};
-ghost use Rattle.roads.specs.Told.{tallied, listed, told_by, roads_told};
+ghost use Rattle.cord.specs.Views.{roads};
+ghost use Rattle.roads.specs.declared.Refusal.TheVariants.{Unasked as OfUnasked, Divide};
+ghost use Rattle.trap.specs.declared.Unasked.TheVariants.{TooLarge};
+ghost use Rattle.roads.specs.Told.{judged_by, told_as, told_by, roads_told};
 
-use flags::width::{Width8, Width16};
-use trap::compare;
+use cord::Roads;
+use divide::div;
+use flags::number::Number;
+use std::num::TryFromIntError;
+use trap::{Unasked, compare};
 
-// A divide that is not done has no ones to count.
-fn none(status: u8, roads: &mut [u16; 2]) -> u8
-    ensures { tallied result roads.new ≡ tallied status (0 ∷ 0 ∷ []) }
-{
-    *roads = [0, 0];
-    status
+// Why there are no roads: the divide cannot be asked about, or the chip refuses it.
+#[derive(Clone, Copy, Debug, PartialEq, Eq)]
+pub enum Refusal {
+    Unasked(Unasked),
+    Divide(div::Refusal),
 }
 
-// The number that CORD works on.
+// An operand that does not fit its width.
+impl From<TryFromIntError> for Refusal {
+    ghost from_gives = { λ _ e. e ≡ OfUnasked TooLarge };
+
+    fn from(_: TryFromIntError) -> Refusal {
+        Refusal::Unasked(Unasked::TooLarge)
+    }
+}
+
+impl From<div::Refusal> for Refusal {
+    ghost from_gives = { λ why e. e ≡ Divide why };
+
+    fn from(why: div::Refusal) -> Refusal {
+        Refusal::Divide(why)
+    }
+}
+
+// The number that CORD works on, of a width or of two: `bits` is a number, as in `trap::compare`.
 fn magnitude_by(signed: bool, bits: u32, number: u64) -> u64
     requires { (number < 2 ^ bits) × (8 ≤ bits) × (bits ≤ 32) }
     ensures { result ≡ magnitude signed bits number }
@@ -33,73 +56,67 @@ fn magnitude_by(signed: bool, bits: u32, number: u64) -> u64
     }
 }
 
-// 0 if the divide is accepted, or the status of its refusal. One comparison refuses. Only a refused divide is
-// asked why: the divisor is 0, or the magnitudes are refused without a sign too, or the sign needs the bit.
-fn status_of(bits: u32, dividend: u32, divisor: u16, signed: bool) -> u8
-    requires { (dividend < 2 ^ (bits + bits)) × (divisor < 2 ^ bits) × (8 ≤ bits) × (bits ≤ 16) }
-    ensures { result ≡ (told_by bits signed dividend divisor).status }
+// One comparison refuses. Only a refused divide is asked why: the divisor is 0, or the magnitudes are refused without
+// a sign too, or the sign needs the bit.
+#[tactic(auto, using(numbers::proofs::SignLaws::magnitude_lt, crate::proofs::ToldLaws::zero_refused, crate::proofs::ToldLaws::wide_refused, crate::proofs::ToldLaws::range_refused))]
+fn judge<N: Number>(dividend: u32, divisor: N, signed: bool) -> Result<(), div::Refusal>
+    requires { dividend < 2 ^ (N.BITS + N.BITS) }
+    ensures { result ≡ judged_by N.BITS signed dividend (N.value divisor) }
 {
-    if !compare::would_trap(bits, dividend as u64, divisor as u64, signed) {
-        return 0;
+    let (dividend, divisor) = (dividend as u64, divisor.wide() as u64);
+    if !compare::would_trap(N::BITS, dividend, divisor, signed) {
+        return Ok(());
     }
     if divisor == 0 {
-        return 6;
+        return Err(div::Refusal::ZeroDivisor);
     }
-    let whole = magnitude_by(signed, bits + bits, dividend as u64);
-    let tmpb = magnitude_by(signed, bits, divisor as u64);
-    if compare::would_trap(bits, whole, tmpb, false) {
-        8
+    let whole = magnitude_by(signed, N::BITS + N::BITS, dividend);
+    let tmpb = magnitude_by(signed, N::BITS, divisor);
+    if compare::would_trap(N::BITS, whole, tmpb, false) {
+        Err(div::Refusal::TooWide)
     } else {
-        9
+        Err(div::Refusal::SignRange)
     }
 }
 
-// CORD at the width of `bits`, and its two tallies.
-fn walk(bits: u32, whole: u64, tmpb: u64, roads: &mut [u16; 2]) -> u8
-    requires { ((bits ≡ 8) ⊎ (bits ≡ 16)) × (whole < 2 ^ (bits + bits)) × (tmpb < 2 ^ bits) }
-    ensures { tallied result roads.new ≡ tallied 0 (listed (cord bits tmpb whole 0).roads) }
+// CORD's two tallies. What it is given has no sign.
+fn walk<N: Number>(whole: u64, tmpb: u64) -> Roads
+    requires { (whole < 2 ^ (N.BITS + N.BITS)) × (tmpb < 2 ^ N.BITS) }
+    ensures { roads result ≡ (cord N.BITS tmpb whole 0).roads }
 {
-    if bits == Width8::BITS {
-        let byte = cord::cord8((whole / 0x100) as u8, tmpb as u8, (whole % 0x100) as u8, 0);
-        *roads = [byte.shifted_out, byte.no_borrow];
-        return 0;
-    }
-    let upper = (whole / 0x1_0000) as u16;
-    let word = cord::cord16(upper, tmpb as u16, (whole % 0x1_0000) as u16, 0);
-    *roads = [word.shifted_out, word.no_borrow];
-    0
+    let upper = N::cut((whole >> N::BITS) as u32);
+    let lower = N::cut(whole as u32);
+    cord::cord(upper, N::cut(tmpb as u32), lower, 0).roads
 }
 
-// A valid divide at either width. Each caller passes a constant for `bits`, which the compiler folds.
-fn told(bits: u32, dividend: u32, divisor: u16, signed: bool, roads: &mut [u16; 2]) -> u8
-    requires { ((bits ≡ 8) ⊎ (bits ≡ 16)) × (dividend < 2 ^ (bits + bits)) × (divisor < 2 ^ bits) }
-    ensures { tallied result roads.new ≡ told_by bits signed dividend divisor }
+// A valid divide at either width.
+#[tactic(auto, using(numbers::proofs::SignLaws::magnitude_lt, crate::proofs::ToldLaws::judged_refused, crate::proofs::ToldLaws::judged_walked))]
+fn roads_at<N: Number>(dividend: u32, divisor: N, signed: bool) -> Result<Roads, Refusal>
+    requires { dividend < 2 ^ (N.BITS + N.BITS) }
+    ensures { told_as result ≡ told_by N.BITS signed dividend (N.value divisor) }
 {
-    let status = status_of(bits, dividend, divisor, signed);
-    if status != 0 {
-        return none(status, roads);
-    }
-    let whole = magnitude_by(signed, bits + bits, dividend as u64);
-    let tmpb = magnitude_by(signed, bits, divisor as u64);
-    walk(bits, whole, tmpb, roads)
+    judge(dividend, divisor, signed)?;
+    let whole = magnitude_by(signed, N::BITS + N::BITS, dividend as u64);
+    let tmpb = magnitude_by(signed, N::BITS, divisor.wide() as u64);
+    Ok(walk::<N>(whole, tmpb))
 }
 
 // The limits of a divide are tested here, as they are in `trap`. The laws `told_mode`, `told_large` and
 // `told_admitted` hold them to the table of statuses. `request::decode` and `answer::chart` test them too. With a
 // second caller the compiler would no longer inline those into `ask`, and every request would take longer. REP
 // changes nothing.
-pub fn roads(mode: u8, dividend: u32, divisor: u16, roads: &mut [u16; 2]) -> u8
-    ensures { tallied result roads.new ≡ roads_told mode dividend divisor }
+#[tactic(auto, using(crate::proofs::Rows::told_mode, crate::proofs::Rows::told_word, crate::proofs::Rows::told_byte_large, crate::proofs::Rows::told_byte))]
+pub fn roads(mode: u8, dividend: u32, divisor: u16) -> Result<Roads, Refusal>
+    ensures { told_as result ≡ roads_told mode dividend divisor }
 {
     if mode > 0x07 {
-        return none(4, roads);
+        return Err(Refusal::Unasked(Unasked::WrongMode));
     }
     let signed = mode & 0x02 != 0;
     if mode & 0x01 != 0 {
-        return told(Width16::BITS, dividend, divisor, signed, roads);
+        return roads_at::<u16>(dividend, divisor, signed);
     }
-    if (dividend > Width16::MAX as u32) | (divisor > Width8::MAX as u16) {
-        return none(5, roads);
-    }
-    told(Width8::BITS, dividend, divisor, signed, roads)
+    let dividend = u16::try_from(dividend)?;
+    let divisor = u8::try_from(divisor)?;
+    roads_at::<u8>(dividend as u32, divisor, signed)
 }

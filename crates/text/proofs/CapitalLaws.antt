@@ -1,9 +1,10 @@
 -- The eight digits of two numbers as capitals, in lanes of 8 bits. Assumes nothing.
 use mathlib.Core.{Path.◌≡◌, Path.refl, Path.sym, Path.ap, Path.ap₂, Path.subst, Path.◌∙◌, Bool.Bool, Bool.true, Bool.false, Bool.cond, List.List, List.[], List.◌∷◌, List.◌++◌}
-use Prim.Native.Nat.{ℕ, suc, ◌+◌, ◌*◌, ◌/◌, ◌%◌, ◌^◌, ◌<◌}
+use Prim.Native.Nat.{ℕ, ◌+◌, ◌*◌, ◌/◌, ◌%◌, ◌^◌, ◌<◌}
 use native.Mathlib.{Nat.mul-div_cancel, Nat.div-one, Omega.arith}
-use lib.{Bits.bit_and, Bits.and_high, Dec.ltb, Dec.lit<, ListN.get_or, ListN.set, Seq.sets}
+use lib.{Bits.bit_and, Bits.and_high, Dec.ltb, Dec.lit<, ListN.get_or}
 use borrow.Author.Tests.{ltb-true, ltb-false}
+use Rattle.std.specs.Int.{w64, to_le_bytes}
 use Rattle.text.specs.{Digits.capital_of, Lanes.lanes, Written.four}
 use Rattle.text.proofs.LaneLaws.{each, Below, split, upper_half, lower_half, sums, times, agree, masked, split_by_masks, split_below, each_all, lane_at}
 
@@ -83,17 +84,8 @@ module _ (x y c : ℕ) (hx : x < 0x1_0000) (hy : y < 0x1_0000) (e : c ≡ lanes 
       ap (λ (n : ℕ). n / 256 ^ k % 256) e
       ∙ lane_at 8 (four capital_of x ++ four capital_of y) (subst (Below 256) (in_order x y hx hy) (each_all (λ d. d < 16) (λ b. b < 256) capital_of capital-fits (digits_of x y) (split_below 4 (bytes_of x y)))) k
 
-  -- the eight stores
-  pub stored : (out : List ℕ) (at : ℕ)
-      → set (set (set (set (set (set (set (set out at (c % 0x100)) (at + 1) (c / 0x100 % 0x100)) (at + 2) (c / 0x1_0000 % 0x100)) (at + 3) (c / 0x100_0000 % 0x100)) (at + 4) (c / 0x1_0000_0000 % 0x100)) (at + 5) (c / 0x100_0000_0000 % 0x100)) (at + 6) (c / 0x1_0000_0000_0000 % 0x100)) (at + 7) (c / 0x100_0000_0000_0000 % 0x100)
-      ≡ sets out at (four capital_of x ++ four capital_of y)
-  stored out at =
+  -- the eight bytes
+  pub stored : to_le_bytes w64 c ≡ four capital_of x ++ four capital_of y
+  stored =
       let low : c % 0x100 ≡ capital_of (x / 0x1000) = sym (ap (λ (n : ℕ). n % 0x100) (div-one c)) ∙ byte 0 in
-      let p1 : at + 1 ≡ suc at = omega arith in
-      let p2 : at + 2 ≡ suc (suc at) = omega arith in
-      let p3 : at + 3 ≡ suc (suc (suc at)) = omega arith in
-      let p4 : at + 4 ≡ suc (suc (suc (suc at))) = omega arith in
-      let p5 : at + 5 ≡ suc (suc (suc (suc (suc at)))) = omega arith in
-      let p6 : at + 6 ≡ suc (suc (suc (suc (suc (suc at))))) = omega arith in
-      let p7 : at + 7 ≡ suc (suc (suc (suc (suc (suc (suc at)))))) = omega arith in
-      λ i. set (set (set (set (set (set (set (set out at (low i)) (p1 i) (byte 1 i)) (p2 i) (byte 2 i)) (p3 i) (byte 3 i)) (p4 i) (byte 4 i)) (p5 i) (byte 5 i)) (p6 i) (byte 6 i)) (p7 i) (byte 7 i)
+      λ i. low i ∷ byte 1 i ∷ byte 2 i ∷ byte 3 i ∷ byte 4 i ∷ byte 5 i ∷ byte 6 i ∷ byte 7 i ∷ []

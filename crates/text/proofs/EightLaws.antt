@@ -6,8 +6,9 @@ use native.Mathlib.{Nat.mul-one, Nat.mul-div_cancel, Omega.arith}
 use lib.{Bits.bit_and, Bits.and_mask, Bits.and_high, Dec.ltb, Dec.lit<, Dec.lit≤, ListN.length, ListN.get_or, ListN.take, ListN.drop}
 use lib.Seq.{drop-cons, drop-drop, take-add, take_all}
 use borrow.Author.Tests.{lt-ltb, le-ltb, eq-eqb}
+use Rattle.std.proofs.Common.{Ok, Err}
 use Rattle.text.specs.{Digits.digit_of, Fields.four_at, Fields.fields_at, Fields.read_of, Lanes.lanes, Plain.is_digit, Plain.all_digits, Plain.field_at}
-use Rattle.text.specs.declared.fields.Read.TheVariants.{Fields as OfFields, Digit}
+use Rattle.text.specs.declared.fields.Malformed.TheVariants.{Digit}
 use Rattle.text.proofs.DigitsAt.{value_is, appended, digits_within, digit_in, field_below, field_two, field_cut, field_four}
 use Rattle.text.proofs.LaneLaws.{each, All, Below, join_pairs, sums, times, agree, masked, join_by_masks, each_all, join_below}
 use Rattle.text.proofs.Plain.{is_below, are_four, four-value, four_below, first_four, read_plainly}
@@ -81,20 +82,7 @@ module _ (t : List ℕ) where
   four_number i j k l ej ek el h =
       sym (field_four t i h ∙ ap₂ (λ (x y : ℕ). x * 256 + y) (field_two t i (omega arith)) (field_two t (i + 2) (omega arith)) ∙ (λ z. (digit_at i * 16 + digit_at (ej z)) * 256 + (digit_at (ek z) * 16 + digit_at (el z))))
 
-  pub two_fours_at : (at : ℕ) → at + 8 ≤ length t → all_digits (take 8 (drop at t)) ≡ true
-      → fours_joined (pairs_joined (values_in (lanes 8 (get_or t at 0 ∷ get_or t (at + 1) 0 ∷ get_or t (at + 2) 0 ∷ get_or t (at + 3) 0 ∷ get_or t (at + 4) 0 ∷ get_or t (at + 5) 0 ∷ get_or t (at + 6) 0 ∷ get_or t (at + 7) 0 ∷ []))))
-      ≡ lanes 32 (field_at at 4 t ∷ field_at (at + 4) 4 t ∷ [])
-  two_fours_at at room digits =
-      let is : (k : ℕ) → k < 8 → IsDigit (get_or t (at + k) 0) = λ k h. digit_in t at 8 (at + k) digits (omega arith) (omega arith) (omega arith) in
-      let first : IsDigit (get_or t at 0) = digit_in t at 8 at digits (omega arith) (omega arith) (omega arith) in
-      two_fours_law (get_or t at 0) (get_or t (at + 1) 0) (get_or t (at + 2) 0) (get_or t (at + 3) 0) (get_or t (at + 4) 0) (get_or t (at + 5) 0) (get_or t (at + 6) 0) (get_or t (at + 7) 0)
-      (first, (is 1 (lit< tt), (is 2 (lit< tt), (is 3 (lit< tt), (is 4 (lit< tt), (is 5 (lit< tt), (is 6 (lit< tt), (is 7 (lit< tt), tt))))))))
-      ∙ ap₂ (λ (x y : ℕ). lanes 32 (x ∷ y ∷ []))
-      (four_number at (at + 1) (at + 2) (at + 3) refl refl (omega arith) (omega arith))
-      (four_number (at + 4) (at + 5) (at + 6) (at + 7) (omega arith) (omega arith) (omega arith) (omega arith))
-
-  -- ---- the first four of a request by their number
-
+  -- bytes that stand there, one by one
   four_taken : (k : ℕ) → k + 4 ≤ length t → take 4 (drop k t) ≡ get_or t k 0 ∷ get_or t (k + 1) 0 ∷ get_or t (k + 2) 0 ∷ get_or t (k + 3) 0 ∷ []
   four_taken k h =
       let p1 : suc k ≡ k + 1 = omega arith in
@@ -102,6 +90,29 @@ module _ (t : List ℕ) where
       let p3 : suc (suc (suc k)) ≡ k + 3 = omega arith in
       rw (drop-cons t k 0 (omega arith), drop-cons t (suc k) 0 (omega arith), drop-cons t (suc (suc k)) 0 (omega arith), drop-cons t (suc (suc (suc k))) 0 (omega arith))
       (λ i. get_or t k 0 ∷ get_or t (p1 i) 0 ∷ get_or t (p2 i) 0 ∷ get_or t (p3 i) 0 ∷ [])
+
+  eight_taken : (k : ℕ) → k + 8 ≤ length t
+      → take 8 (drop k t) ≡ get_or t k 0 ∷ get_or t (k + 1) 0 ∷ get_or t (k + 2) 0 ∷ get_or t (k + 3) 0 ∷ get_or t (k + 4) 0 ∷ get_or t (k + 5) 0 ∷ get_or t (k + 6) 0 ∷ get_or t (k + 7) 0 ∷ []
+  eight_taken k h =
+      let p5 : k + 4 + 1 ≡ k + 5 = omega arith in
+      let p6 : k + 4 + 2 ≡ k + 6 = omega arith in
+      let p7 : k + 4 + 3 ≡ k + 7 = omega arith in
+      rw (take-add 4 4 (drop k t), drop-drop 4 k t, four_taken k (omega arith), four_taken (k + 4) (omega arith))
+      (λ i. get_or t k 0 ∷ get_or t (k + 1) 0 ∷ get_or t (k + 2) 0 ∷ get_or t (k + 3) 0 ∷ get_or t (k + 4) 0 ∷ get_or t (p5 i) 0 ∷ get_or t (p6 i) 0 ∷ get_or t (p7 i) 0 ∷ [])
+
+  pub two_fours_at : (at : ℕ) → at + 8 ≤ length t → all_digits (take 8 (drop at t)) ≡ true
+      → fours_joined (pairs_joined (values_in (lanes 8 (take 8 (drop at t))))) ≡ lanes 32 (field_at at 4 t ∷ field_at (at + 4) 4 t ∷ [])
+  two_fours_at at room digits =
+      let is : (k : ℕ) → k < 8 → IsDigit (get_or t (at + k) 0) = λ k h. digit_in t at 8 (at + k) digits (omega arith) (omega arith) (omega arith) in
+      let first : IsDigit (get_or t at 0) = digit_in t at 8 at digits (omega arith) (omega arith) (omega arith) in
+      ap (λ (bs : List ℕ). fours_joined (pairs_joined (values_in (lanes 8 bs)))) (eight_taken at room)
+      ∙ two_fours_law (get_or t at 0) (get_or t (at + 1) 0) (get_or t (at + 2) 0) (get_or t (at + 3) 0) (get_or t (at + 4) 0) (get_or t (at + 5) 0) (get_or t (at + 6) 0) (get_or t (at + 7) 0)
+      (first, (is 1 (lit< tt), (is 2 (lit< tt), (is 3 (lit< tt), (is 4 (lit< tt), (is 5 (lit< tt), (is 6 (lit< tt), (is 7 (lit< tt), tt))))))))
+      ∙ ap₂ (λ (x y : ℕ). lanes 32 (x ∷ y ∷ []))
+      (four_number at (at + 1) (at + 2) (at + 3) refl refl (omega arith) (omega arith))
+      (four_number (at + 4) (at + 5) (at + 6) (at + 7) (omega arith) (omega arith) (omega arith) (omega arith))
+
+  -- ---- the first four of a request by their number
 
   module _ (k : ℕ) (h : k + 4 ≤ length t) where
     abbrev are_digits : Bool
@@ -149,11 +160,11 @@ module _ (t : List ℕ) where
           y_below = below (from + 16) (omega arith) (omega arith);
         }
 
-    pub refused_rest : rest ≡ false → Digit ≡ fields_at t from
+    pub refused_rest : rest ≡ false → Err Digit ≡ fields_at t from
     refused_rest e = sym (fields_plainly t from room ∙ rw (first_then_rest, e, and-false (all_digits (take 4 (drop from t)))))
 
     module _ {named : ℕ} (is : named ≡ four_at t from) where
-      pub refused_first : 0x1_0000 ≤ named → Digit ≡ fields_at t from
+      pub refused_first : 0x1_0000 ≤ named → Err Digit ≡ fields_at t from
       refused_first h = sym (fields_plainly t from room ∙ rw (first_then_rest, ← four_digits from (omega arith), ← is, le-ltb _ _ h))
 
       first_digits : named < 0x1_0000 → all_digits (take 4 (drop from t)) ≡ true
@@ -166,7 +177,7 @@ module _ (t : List ℕ) where
 
       pub read_there : named < 0x1_0000 → rest ≡ true → {op mode flags x y : ℕ}
           → op ≡ field_at from 2 t → mode ≡ field_at (from + 2) 2 t → flags ≡ field_at (from + 4) 4 t → x ≡ field_at (from + 8) 8 t → y ≡ field_at (from + 16) 4 t
-          → OfFields (record { op = op; mode = mode; flags = flags; x = x; y = y }) ≡ fields_at t from
+          → Ok (record { op = op; mode = mode; flags = flags; x = x; y = y }) ≡ fields_at t from
       read_there h e = fields_there t from room (first_then_rest ∙ (λ i. first_digits h i && e i))
 
 -- ---- a line of twenty digits, by three words
@@ -211,9 +222,9 @@ module _ (t : List ℕ) (long : length t ≡ 20) where
         }
 
     pub line_there : {op mode flags x y : ℕ} → op ≡ field_at 0 2 t → mode ≡ field_at 2 2 t → flags ≡ field_at 4 4 t → x ≡ field_at 8 8 t → y ≡ field_at 16 4 t
-        → OfFields (record { op = op; mode = mode; flags = flags; x = x; y = y }) ≡ read_of t
+        → Ok (record { op = op; mode = mode; flags = flags; x = x; y = y }) ≡ read_of t
     line_there op mode flags x y =
-        (λ i. OfFields (record { op = op i; mode = mode i; flags = flags i; x = x i; y = y i })) ∙ sym (read_plainly t ∙ rw (eq-eqb _ _ long, digits))
+        (λ i. Ok (record { op = op i; mode = mode i; flags = flags i; x = x i; y = y i })) ∙ sym (read_plainly t ∙ rw (eq-eqb _ _ long, digits))
 
-  pub line_refused : all_digits t ≡ false → Digit ≡ read_of t
+  pub line_refused : all_digits t ≡ false → Err Digit ≡ read_of t
   line_refused none = sym (read_plainly t ∙ rw (eq-eqb _ _ long, none))

@@ -1,3 +1,4 @@
+pub mod Below
 pub mod CapitalLaws
 pub mod DigitsAt
 pub mod EightLaws
@@ -8,3 +9,4 @@ pub mod NextLine
 pub mod Plain
 pub mod ReadBack
 pub mod TwentyLaws
+pub mod Scans

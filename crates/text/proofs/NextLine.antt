@@ -1,12 +1,13 @@
 -- The first line of a text and the lines after it: what it takes, where the next starts, the list of lines, and the lines of two texts joined.
 -- Assumes nothing.
-use mathlib.Core.{Path.◌≡◌, Path.refl, Path.ap, Path.◌∙◌, Bool.Bool, Bool.true, Bool.false, Bool.cond, List.List, List.[], List.◌∷◌, List.◌++◌}
+use mathlib.Core.{Path.◌≡◌, Path.refl, Path.sym, Path.ap, Path.◌∙◌, Bool.Bool, Bool.true, Bool.false, Bool.not, Bool.cond, Bool.◌&&◌, List.List, List.[], List.◌∷◌, List.◌++◌}
 use Prim.Native.Nat.{ℕ, suc, ◌+◌, ◌<◌, ◌≤◌, min}
 use native.Mathlib.{Nat.le_refl, Nat.le_of_suc-le-suc, Nat.not-suc-le-zero, Omega.arith}
 use lib.{Dec.leb, Dec.ltb, Dec.eqb, Dec.lit<, ListN.length, ListN.take, ListN.drop, ListN.length-append, ListN.length-drop, ListN.drop_of_length-le}
 use lib.Seq.{take_all, length-take-le, take-append-le, drop-append-le}
-use borrow.Author.Tests.{lt-ltb, le-ltb, ltb-true, ltb-false, leb-true, leb-false}
-use Rattle.text.specs.Lines.{line_length, line_at, line_end, next_of, takes, with_byte, lines_of, bytes_in}
+use borrow.Author.Tests.{lt-ltb, le-ltb, ltb-true, ltb-false, leb-true, leb-false, eqb-false}
+use Rattle.std.proofs.Common.{Some, None}
+use Rattle.text.specs.Lines.{line_length, line_at, line_end, next_of, next_line, takes, with_byte, lines_of, bytes_in}
 use Rattle.text.proofs.LineLaws.{length_within}
 
 take_by : (x e : Bool) (t : List ℕ) → ltb (line_length t) (length t) ≡ x → cond x (suc (line_length t)) (cond e (length t) 0) ≤ length t
@@ -51,6 +52,19 @@ module _ (text : List ℕ) (used end : ℕ) (e : Bool) (inside : used ≤ length
       by false q =
           let h : length (drop used text) ≤ line_length (drop used text) = simp length-drop (omega (arith, ltb-false end (length text) q)) in
           rw (le-ltb _ _ h) (by_mark e)
+
+-- where a line is left it is another place than the line's start
+marked_moves : (from size next : ℕ) (e x : Bool) → eqb from size ≡ x → Some next ≡ cond (e && not x) (Some size) None → next ≡ from → ⊥
+marked_moves from size next true true q h p = cc
+marked_moves from size next true false q h p = let same : next ≡ size = cc in eqb-false from size q (sym p ∙ same)
+marked_moves from size next false x q h p = cc
+
+pub next_moves : (from end size next : ℕ) (e : Bool) → from ≤ end → Some next ≡ next_line from end size e → next ≡ from → ⊥
+next_moves from end size next e within = by (ltb end size)
+  where
+    by : (x : Bool) → Some next ≡ cond x (Some (suc end)) (cond (e && not (eqb from size)) (Some size) None) → next ≡ from → ⊥
+    by true h p = let same : next ≡ suc end = cc in omega (arith, same, p, within)
+    by false h p = marked_moves from size next e (eqb from size) refl h p
 
 -- ---- the list of lines
 

@@ -5,9 +5,10 @@ use native.Mathlib.Omega.{arith}
 use lib.{Dec.leb, Dec.ltb, Dec.eqb, ListN.length}
 use borrow.Author.Tests.{leb-true, ltb-true, lt-ltb, eqb-true}
 use Rattle.numbers.specs.Numbers.{between}
+use Rattle.std.proofs.Common.{Ok, Err}
 use Rattle.text.specs.{Digits.digit_of, Fields.four_of, Fields.four_at, Fields.fields_of, Fields.fields_at, Fields.read_of}
 use Rattle.text.specs.Plain.{is_digit, all_digits, number_of, fields_in}
-use Rattle.text.specs.declared.fields.Read.TheVariants.{Fields as OfFields, Length, Digit}
+use Rattle.text.specs.declared.fields.Malformed.TheVariants.{Length, Digit}
 use Rattle.numbers.proofs.BoolLaws.{both}
 
 -- ---- digits
@@ -87,15 +88,15 @@ module _ (a b c d e f g h i j k l m n o p q r s t : ℕ) where
   abbrev twenty : List ℕ
   twenty = a ∷ b ∷ c ∷ d ∷ e ∷ f ∷ g ∷ h ∷ i ∷ j ∷ k ∷ l ∷ m ∷ n ∷ o ∷ p ∷ q ∷ r ∷ s ∷ t ∷ []
 
-  read_twenty : fields_at twenty 0 ≡ cond (all_digits twenty) (OfFields (fields_in twenty)) Digit
+  read_twenty : fields_at twenty 0 ≡ cond (all_digits twenty) (Ok (fields_in twenty)) (Err Digit)
   unfolding fields_at fields_of four_at
   read_twenty =
       rw (first_four a b c d (e ∷ f ∷ g ∷ h ∷ i ∷ j ∷ k ∷ l ∷ m ∷ n ∷ o ∷ p ∷ q ∷ r ∷ s ∷ t ∷ []), first_four e f g h (i ∷ j ∷ k ∷ l ∷ m ∷ n ∷ o ∷ p ∷ q ∷ r ∷ s ∷ t ∷ []), first_four i j k l (m ∷ n ∷ o ∷ p ∷ q ∷ r ∷ s ∷ t ∷ []), first_four m n o p (q ∷ r ∷ s ∷ t ∷ []), first_four q r s t [], four_below a b c d, four_below e f g h, four_below i j k l, four_below m n o p, four_below q r s t)
       (by (are_four a b c d) (are_four e f g h) (are_four i j k l) (are_four m n o p) (are_four q r s t) refl refl refl refl refl)
     where
       by : (u v w x y : Bool) → are_four a b c d ≡ u → are_four e f g h ≡ v → are_four i j k l ≡ w → are_four m n o p ≡ x → are_four q r s t ≡ y
-          → cond (u && v && w && x && y) (OfFields (record { op = four a b c d / 0x100; mode = four a b c d % 0x100; flags = four e f g h; x = four i j k l * 0x1_0000 + four m n o p; y = four q r s t })) Digit
-          ≡ cond (u && (v && (w && (x && (y && true))))) (OfFields (fields_in twenty)) Digit
+          → cond (u && v && w && x && y) (Ok (record { op = four a b c d / 0x100; mode = four a b c d % 0x100; flags = four e f g h; x = four i j k l * 0x1_0000 + four m n o p; y = four q r s t })) (Err Digit)
+          ≡ cond (u && (v && (w && (x && (y && true))))) (Ok (fields_in twenty)) (Err Digit)
       by true true true true true eu ev ew ex ey =
           let hu = are_below a b c d eu in
           let op : four a b c d / 0x100 ≡ number_of (a ∷ b ∷ []) = omega (arith, four-value a b c d eu) in
@@ -103,7 +104,7 @@ module _ (a b c d e f g h i j k l m n o p q r s t : ℕ) where
           let flags : four e f g h ≡ number_of (e ∷ f ∷ g ∷ h ∷ []) = omega (arith, four-value e f g h ev) in
           let x : four i j k l * 0x1_0000 + four m n o p ≡ number_of (i ∷ j ∷ k ∷ l ∷ m ∷ n ∷ o ∷ p ∷ []) = omega (arith, four-value i j k l ew, four-value m n o p ex) in
           let y : four q r s t ≡ number_of (q ∷ r ∷ s ∷ t ∷ []) = omega (arith, four-value q r s t ey) in
-          λ z. OfFields (record { op = op z; mode = mode z; flags = flags z; x = x z; y = y z })
+          λ z. Ok (record { op = op z; mode = mode z; flags = flags z; x = x z; y = y z })
       by true true true true false eu ev ew ex ey = refl
       by true true true false y eu ev ew ex ey = refl
       by true true false x y eu ev ew ex ey = refl
@@ -111,7 +112,7 @@ module _ (a b c d e f g h i j k l m n o p q r s t : ℕ) where
       by false v w x y eu ev ew ex ey = refl
 
 abbrev ReadPlainly : List ℕ → Type 0
-ReadPlainly line = fields_at line 0 ≡ cond (all_digits line) (OfFields (fields_in line)) Digit
+ReadPlainly line = fields_at line 0 ≡ cond (all_digits line) (Ok (fields_in line)) (Err Digit)
 
 of_twenty : (line : List ℕ) → length line ≡ 20 → ReadPlainly line
 of_twenty =
@@ -121,10 +122,10 @@ of_twenty =
     (λ q r s t. no_more (λ z. ReadPlainly (a ∷ b ∷ c ∷ d ∷ e ∷ f ∷ g ∷ h ∷ i ∷ j ∷ k ∷ l ∷ m ∷ n ∷ o ∷ p ∷ q ∷ r ∷ s ∷ t ∷ z)) (read_twenty a b c d e f g h i j k l m n o p q r s t))))))
 
 -- the length, then the digits, then the fields
-pub read_plainly : (line : List ℕ) → read_of line ≡ cond (eqb (length line) 20) (cond (all_digits line) (OfFields (fields_in line)) Digit) Length
+pub read_plainly : (line : List ℕ) → read_of line ≡ cond (eqb (length line) 20) (cond (all_digits line) (Ok (fields_in line)) (Err Digit)) (Err Length)
 unfolding read_of
 read_plainly line = by (eqb (length line) 20) refl
   where
-    by : (k : Bool) → eqb (length line) 20 ≡ k → cond k (fields_at line 0) Length ≡ cond k (cond (all_digits line) (OfFields (fields_in line)) Digit) Length
+    by : (k : Bool) → eqb (length line) 20 ≡ k → cond k (fields_at line 0) (Err Length) ≡ cond k (cond (all_digits line) (Ok (fields_in line)) (Err Digit)) (Err Length)
     by true e = of_twenty line (eqb-true (length line) 20 e)
     by false e = refl

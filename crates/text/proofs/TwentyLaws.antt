@@ -4,17 +4,17 @@ use Prim.Native.Nat.{ℕ, ◌+◌, ◌<◌, ◌≤◌}
 use native.Mathlib.Omega.{arith}
 use lib.{Dec.lit≤, ListN.length, ListN.get_or, ListN.take, ListN.drop, ListN.length-drop, Seq.get_or-take, Seq.get_or-drop, Seq.length-take-le}
 use borrow.Author.Tests.{eq-eqb}
+use Rattle.std.proofs.Common.{Ok, Err}
 use Rattle.text.specs.{Digits.digit_of, Fields.four_of, Fields.four_at, Fields.fields_of, Fields.fields_at, Fields.read_of, Lines.line_length, Lines.found_of}
-use Rattle.text.specs.{Plain.all_digits, Plain.field_at, Plain.fields_in, declared.fields.Fields.Fields, declared.fields.Read.Read}
-use Rattle.text.specs.declared.fields.Read.TheVariants.{Fields as OfFields, Length, Digit}
+use Rattle.text.specs.{Plain.all_digits, Plain.field_at, Plain.fields_in, declared.fields.Fields.Fields, Fields.Read}
+use Rattle.text.specs.declared.fields.Malformed.TheVariants.{Digit}
 use Rattle.text.proofs.{DigitsAt.digits_no_feed, DigitsAt.field_part, FoundLaws.first_feed, Plain.read_plainly}
 
 abbrev is_fields : Read → Bool
-is_fields (OfFields f) = true
-is_fields Length = false
-is_fields Digit = false
+is_fields (Ok f) = true
+is_fields (Err why) = false
 
-all_digits_lem : (x : Bool) (f : Fields) → is_fields (cond x (OfFields f) Digit) ≡ true → x ≡ true
+all_digits_lem : (x : Bool) (f : Fields) → is_fields (cond x (Ok f) (Err Digit)) ≡ true → x ≡ true
 all_digits_lem true f e = refl
 all_digits_lem false f e = e
 
@@ -49,33 +49,33 @@ module _ (text : List ℕ) (from : ℕ) where
         let e = four_moved 16 (from + 16) refl (omega arith) in
         rw (eq-eqb (length twenty) 20 long) (λ i. fields_of (a i) (b i) (c i) (d i) (e i))
 
-    pub fields_plainly : fields_at text from ≡ cond (all_digits twenty) (OfFields (fields_in twenty)) Digit
+    pub fields_plainly : fields_at text from ≡ cond (all_digits twenty) (Ok (fields_in twenty)) (Err Digit)
     fields_plainly = read_there ∙ read_plainly twenty ∙ rw (eq-eqb (length twenty) 20 long)
 
     -- digits, with each field at its place
     pub fields_there : all_digits twenty ≡ true → {op mode flags x y : ℕ}
         → op ≡ field_at from 2 text → mode ≡ field_at (from + 2) 2 text → flags ≡ field_at (from + 4) 4 text → x ≡ field_at (from + 8) 8 text → y ≡ field_at (from + 16) 4 text
-        → OfFields (record { op = op; mode = mode; flags = flags; x = x; y = y }) ≡ fields_at text from
+        → Ok (record { op = op; mode = mode; flags = flags; x = x; y = y }) ≡ fields_at text from
     fields_there e op mode flags x y =
         let here : from ≡ from + 0 = omega arith in
         let at : (k m : ℕ) → k + m ≤ 20 → field_at (from + k) m text ≡ field_at k m twenty = λ k m h. sym (field_part text from 20 k m h) in
         let first : field_at from 2 text ≡ field_at 0 2 twenty = ap (λ (k : ℕ). field_at k 2 text) here ∙ at 0 2 (lit≤ tt) in
-        (λ i. OfFields (record { op = (op ∙ first) i; mode = (mode ∙ at 2 2 (lit≤ tt)) i; flags = (flags ∙ at 4 4 (lit≤ tt)) i; x = (x ∙ at 8 8 (lit≤ tt)) i; y = (y ∙ at 16 4 (lit≤ tt)) i }))
+        (λ i. Ok (record { op = (op ∙ first) i; mode = (mode ∙ at 2 2 (lit≤ tt)) i; flags = (flags ∙ at 4 4 (lit≤ tt)) i; x = (x ∙ at 8 8 (lit≤ tt)) i; y = (y ∙ at 16 4 (lit≤ tt)) i }))
         ∙ sym (fields_plainly ∙ rw e)
 
     -- read as fields, they are digits
-    digits : (f : Fields) → fields_at text from ≡ OfFields f → all_digits twenty ≡ true
+    digits : (f : Fields) → fields_at text from ≡ Ok f → all_digits twenty ≡ true
     digits f e = all_digits_lem (all_digits twenty) (fields_in twenty) (ap is_fields (sym fields_plainly ∙ e))
 
   -- read as fields, and a line feed after them: a line
-  line_of_twenty : (f : Fields) → from + 20 < length text → get_or text (from + 20) 0 ≡ 0x0A → fields_at text from ≡ OfFields f → line_length (drop from text) ≡ 20
+  line_of_twenty : (f : Fields) → from + 20 < length text → get_or text (from + 20) 0 ≡ 0x0A → fields_at text from ≡ Ok f → line_length (drop from text) ≡ 20
   line_of_twenty f h feed read =
       first_feed (drop from text) 20 (simp length-drop (omega arith))
       (λ i p e. digits_no_feed twenty (digits (omega arith) f read) i (omega (arith, long (omega arith))) (get_or-take 20 (drop from text) i 0 p ∙ e))
       (get_or-drop from text 20 0 ∙ feed)
 
   -- what is found there
-  pub found_there : (f : Fields) → from + 20 < length text → get_or text (from + 20) 0 ≡ 0x0A → fields_at text from ≡ OfFields f
+  pub found_there : (f : Fields) → from + 20 < length text → get_or text (from + 20) 0 ≡ 0x0A → fields_at text from ≡ Ok f
       → record { read = fields_at text from; end = from + 20 } ≡ found_of text from
   found_there f h feed read =
       let n = sym (line_of_twenty f h feed read) in

@@ -1,5 +1,5 @@
 -- Hexadecimal digits: both letter cases are read; capitals are written. Assumes nothing.
-use Rattle.std.specs.Prelude.{cond, List, ℕ, ◌+◌, ◌-◌, ltb}
+use Rattle.std.specs.Prelude.{cond, List, Option, Some, None, ℕ, ◌+◌, ◌-◌, ltb}
 use Rattle.numbers.specs.Numbers.{between}
 use Rattle.numbers.specs.Table.{Holds}
 
@@ -18,3 +18,7 @@ DigitTable = Holds digit_of 256
 -- the capitals, at every digit
 abbrev pub CapitalTable : List ℕ → Type 0
 CapitalTable = Holds capital_of 16
+
+-- a number below a bound; none where it reaches it
+abbrev pub below : ℕ → ℕ → Option ℕ
+below bound n = cond (ltb n bound) (Some n) None

@@ -1,5 +1,5 @@
 -- The lines of a text: a line ends before a line feed; a tail is a line too with the mark that the text is at its end. Assumes nothing.
-use Rattle.std.specs.Prelude.{Bool, true, false, cond, List, [], ◌∷◌, ℕ, suc, ◌+◌, ltb, eqb, length, take, drop}
+use Rattle.std.specs.Prelude.{Bool, true, false, not, cond, ◌&&◌, List, [], ◌∷◌, Option, Some, None, ℕ, suc, ◌+◌, ltb, eqb, length, take, drop}
 use Rattle.text.specs.Fields.{read_of}
 use Rattle.text.specs.declared.found.Found.{Found}
 
@@ -24,6 +24,10 @@ found_of text from = record { read = read_of (line_at text from); end = line_end
 -- end where the tail is a line too; `from` itself where no line is left
 abbrev pub next_of : ℕ → ℕ → ℕ → Bool → ℕ
 next_of from end size atEnd = cond (ltb end size) (suc end) (cond atEnd size from)
+
+-- the same, where a line is left
+abbrev pub next_line : ℕ → ℕ → ℕ → Bool → Option ℕ
+next_line from end size atEnd = cond (ltb end size) (Some (suc end)) (cond (atEnd && not (eqb from size)) (Some size) None)
 
 -- the bytes that a text's first line takes, its line feed with it; 0 where there is no line
 abbrev pub takes : Bool → List ℕ → ℕ

@@ -1,9 +1,10 @@
 // Hexadecimal digits: what a byte stands for, and the capital that stands for a number. Both are read
-// from tables, which are built once above and lent.
+// from static tables.
 ghost use Rattle.std.specs.Prelude.{◌≡◌, ◌<◌};
-ghost use Rattle.text.specs.Digits.{DigitTable, CapitalTable, digit_of, capital_of};
+ghost use Rattle.text.specs.Digits.{DigitTable, CapitalTable, below, digit_of, capital_of};
 
-const DIGITS: [u8; 256] = [
+// 16 where the byte is no digit.
+static DIGITS: [u8; 256] = [
     // 00
     16, 16, 16, 16, 16, 16, 16, 16, 16, 16, 16, 16, 16, 16, 16, 16,
     // 10
@@ -42,34 +43,32 @@ const DIGITS: [u8; 256] = [
     16, 16, 16, 16, 16, 16, 16, 16, 16, 16, 16, 16, 16, 16, 16, 16,
 ];
 
-const CAPITALS: [u8; 16] = [
+static CAPITALS: [u8; 16] = [
     48, 49, 50, 51, 52, 53, 54, 55, 56, 57, 65, 66, 67, 68, 69, 70,
 ];
 
-pub fn digit_table() -> [u8; 256]
-    ensures { DigitTable result }
+fn digit_table() -> &'static [u8; 256]
+    ensures { DigitTable result.now }
 {
-    DIGITS
+    &DIGITS
 }
 
-pub fn capital_table() -> [u8; 16]
-    ensures { CapitalTable result }
+fn capital_table() -> &'static [u8; 16]
+    ensures { CapitalTable result.now }
 {
-    CAPITALS
+    &CAPITALS
 }
 
-// 16 where the byte is no digit.
-pub fn digit(table: &[u8; 256], byte: u8) -> u8
-    requires { DigitTable table.now }
-    ensures { result ≡ digit_of byte }
+pub fn digit(byte: u8) -> Option<u8>
+    ensures { result ≡ below 16 (digit_of byte) }
 {
-    table[byte as usize]
+    let number = digit_table()[byte as usize];
+    if number < 16 { Some(number) } else { None }
 }
 
-pub fn capital(table: &[u8; 16], number: u16) -> u8
-    requires capital_table { CapitalTable table.now }
-    requires number_bound { number < 16 }
+pub fn capital(number: u16) -> u8
+    requires { number < 16 }
     ensures { result ≡ capital_of number }
 {
-    table[number as usize]
+    capital_table()[number as usize]
 }

@@ -1,14 +1,13 @@
 // A line of a text, found and read.
 ghost use Rattle.std.specs.Prelude.{◌≡◌, ◌≤◌, length};
-ghost use Rattle.text.specs.Digits.{DigitTable};
 ghost use Rattle.text.specs.Lines.{found_of};
 
-use crate::fields::Read;
+use crate::fields::{Fields, Malformed};
 use crate::{fields, lines};
 
-#[derive(Drop)]
+#[derive(Clone, Copy, Debug, PartialEq, Eq)]
 pub struct Found {
-    pub read: Read,
+    pub read: Result<Fields, Malformed>,
     pub end: usize,
 }
 
@@ -27,17 +26,15 @@ fn sought(text: &[u8], from: usize) -> Found
 // Reads the line that starts at `from`. If 20 digits and a line feed stand there, that is the line: a line
 // feed is not a digit, so no search is needed. Nearly every line of a good text is of this kind. All other
 // lines go through `sought`.
-pub fn read_at(table: &[u8; 256], text: &[u8], from: usize) -> Found
-    requires digit_table { DigitTable table.now }
-    requires from_in_bounds { from ≤ length text.now }
+pub fn read_at(text: &[u8], from: usize) -> Found
+    requires { from ≤ length text.now }
     ensures { result ≡ found_of text.now from }
 {
     if text.len() - from >= 21 {
         if text[from + 20] == b'\n' {
-            let read = fields::fields_at(table, text, from);
-            if let Read::Fields(_) = read {
+            if let Ok(fields) = fields::fields_at(text, from) {
                 return Found {
-                    read,
+                    read: Ok(fields),
                     end: from + 20,
                 };
             }

@@ -1,6 +1,8 @@
-// Digits read without a table, for one line at a time: a table takes longer to build than a line to read.
-// No function branches on a digit, so the compiler can test many bytes at once.
-ghost use Rattle.std.specs.Prelude.{true, ◌≡◌, ◌+◌, ◌≤◌, length, take, drop};
+// Digits read without a table: no function branches on a digit, so the compiler can test many bytes at once.
+// These and `fields` take a text and a place in it, and no part of it: the definitions of lines and fields, and the laws
+// on them, speak of places.
+ghost use Rattle.std.specs.Prelude.{true, ◌≡◌, ◌&&◌, ◌+◌, ◌≤◌, length, take, drop};
+ghost use Rattle.std.specs.List.{fold};
 ghost use Rattle.text.specs.Digits.{digit_of};
 ghost use Rattle.text.specs.Plain.{is_digit, all_digits, field_at};
 
@@ -12,19 +14,19 @@ fn is_digit(byte: u8) -> bool
         | ((0x61 <= byte) & (byte <= 0x66))
 }
 
-// Whether the `count` bytes from `from` on are all digits. The loop has no early exit, so the compiler can
-// test many bytes at once.
+// Whether all of them are digits. The fold has no early exit, so the compiler can test many bytes at once.
+fn are_digits(bytes: &[u8]) -> bool
+    ensures { result ≡ fold (λ all b. all && is_digit b) true bytes.now }
+{
+    bytes.iter().fold(true, |all, byte| all & is_digit(*byte))
+}
+
+// Whether the `count` bytes from `from` on are all digits.
 pub fn all_digits(text: &[u8], from: usize, count: usize) -> bool
     requires { from + count ≤ length text.now }
     ensures { result ≡ all_digits (take count (drop from text.now)) }
 {
-    let mut all = true;
-    let mut i = 0;
-    while i < count {
-        all = all & is_digit(text[from + i]);
-        i += 1;
-    }
-    all
+    are_digits(&text[from..from + count])
 }
 
 // The number of a byte that is a digit. A letter has bit 6, and its low four bits are 1 for A.

@@ -1,7 +1,7 @@
 // An answer line: status (2 digits), flags (4), steps (4), R (4), S (4) and a line feed, 19 bytes.
 ghost use Rattle.std.specs.Prelude.{◌≡◌, ◌++◌, ◌+◌, ◌≤◌, length, drop};
 ghost use Rattle.std.proofs.lemmas.List.Edits.{sets};
-ghost use Rattle.text.specs.Digits.{CapitalTable, capital_of};
+ghost use Rattle.text.specs.Digits.{capital_of};
 ghost use Rattle.text.specs.Lanes.{lanes};
 ghost use Rattle.text.specs.Written.{four, written};
 
@@ -19,31 +19,22 @@ fn eight_capitals(first: u16, second: u16) -> u64
     n + 0x3030_3030_3030_3030 + ((n + 0x0606_0606_0606_0606) & 0x1010_1010_1010_1010) / 0x10 * 7
 }
 
-// Writes the four digits of `first` and then those of `second`, from `at` on. The compiler merges eight
-// adjacent stores into one if the lowest byte is stored first.
+// Writes the four digits of `first` and then those of `second`, from `at` on.
 fn put_eight(first: u16, second: u16, out: &mut [u8], at: usize)
     requires { at + 8 ≤ length out.old }
     ensures { out.new ≡ sets out.old at (four capital_of first ++ four capital_of second) }
 {
-    let c = eight_capitals(first, second);
-    out[at] = (c % 0x100) as u8;
-    out[at + 1] = (c / 0x100 % 0x100) as u8;
-    out[at + 2] = (c / 0x1_0000 % 0x100) as u8;
-    out[at + 3] = (c / 0x100_0000 % 0x100) as u8;
-    out[at + 4] = (c / 0x1_0000_0000 % 0x100) as u8;
-    out[at + 5] = (c / 0x100_0000_0000 % 0x100) as u8;
-    out[at + 6] = (c / 0x1_0000_0000_0000 % 0x100) as u8;
-    out[at + 7] = (c / 0x100_0000_0000_0000 % 0x100) as u8;
+    out[at..at + 8].copy_from_slice(&eight_capitals(first, second).to_le_bytes());
 }
 
-// Writes 19 bytes. The bytes after them stay as they were.
-pub fn write(table: &[u8; 16], status: u8, flags: u16, steps: u16, r: u16, s: u16, out: &mut [u8])
-    requires capital_table { CapitalTable table.now }
-    requires in_bounds { 19 ≤ length out.old }
+// Writes 19 bytes. The bytes after them stay as they were. Five numbers and no struct: this crate doesn't know
+// `answer::Answer`, and a struct of its own would be that one once more.
+pub fn write(status: u8, flags: u16, steps: u16, r: u16, s: u16, out: &mut [u8])
+    requires { 19 ≤ length out.old }
     ensures { out.new ≡ written capital_of status flags steps r s ++ drop 19 out.old }
 {
-    out[0] = digits::capital(table, (status / 0x10) as u16);
-    out[1] = digits::capital(table, (status % 0x10) as u16);
+    out[0] = digits::capital((status / 0x10) as u16);
+    out[1] = digits::capital((status % 0x10) as u16);
     put_eight(flags, steps, out, 2);
     put_eight(r, s, out, 10);
     out[18] = b'\n';

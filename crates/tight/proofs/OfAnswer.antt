@@ -3,7 +3,8 @@ use mathlib.Core.Path.{refl}
 use Rattle.answer.specs.contracts.answer
 use Rattle.answer.specs.contracts.ask
 use Rattle.answer.specs.contracts.chart
-use Rattle.tight.specs.Tight.{Tight}
+use Rattle.tight.specs.Numbers.{Numbers}
+use Rattle.tight.specs.Tight.{Tight, TightAt}
 use Rattle.tight.proofs.Law.{plainly, same}
 
 module _ {M : Type 1} where
@@ -13,35 +14,11 @@ module _ {M : Type 1} where
   pub answer-limited : Tight M answer.limited.signature (λ 𝓤. answer.limited.clauses)
   answer-limited c g r s = plainly c.𝓤 (λ e d. (same e d, refl))
 
-  pub answer-of_c8 : Tight M answer.of_c8.signature (λ 𝓤. answer.of_c8.clauses)
-  answer-of_c8 c g r s = plainly c.𝓤 (λ e d. (same e d, refl))
-
-  pub answer-of_co8 : Tight M answer.of_co8.signature (λ 𝓤. answer.of_co8.clauses)
-  answer-of_co8 c g r s = plainly c.𝓤 (λ e d. (same e d, refl))
-
-  pub answer-of_coa8 : Tight M answer.of_coa8.signature (λ 𝓤. answer.of_coa8.clauses)
-  answer-of_coa8 c g r s = plainly c.𝓤 (λ e d. (same e d, refl))
-
-  pub answer-of_c16 : Tight M answer.of_c16.signature (λ 𝓤. answer.of_c16.clauses)
-  answer-of_c16 c g r s = plainly c.𝓤 (λ e d. (same e d, refl))
-
-  pub answer-of_co16 : Tight M answer.of_co16.signature (λ 𝓤. answer.of_co16.clauses)
-  answer-of_co16 c g r s = plainly c.𝓤 (λ e d. (same e d, refl))
-
-  pub answer-of_coa16 : Tight M answer.of_coa16.signature (λ 𝓤. answer.of_coa16.clauses)
-  answer-of_coa16 c g r s = plainly c.𝓤 (λ e d. (same e d, refl))
-
   pub answer-of_product8 : Tight M answer.of_product8.signature (λ 𝓤. answer.of_product8.clauses)
   answer-of_product8 c g r s = plainly c.𝓤 (λ e d. (same e d, refl))
 
   pub answer-of_product16 : Tight M answer.of_product16.signature (λ 𝓤. answer.of_product16.clauses)
   answer-of_product16 c g r s = plainly c.𝓤 (λ e d. (same e d, refl))
-
-  pub answer-of_divided8 : Tight M answer.of_divided8.signature (λ 𝓤. answer.of_divided8.clauses)
-  answer-of_divided8 c g r s = plainly c.𝓤 (λ e d. (same e d, refl))
-
-  pub answer-of_divided16 : Tight M answer.of_divided16.signature (λ 𝓤. answer.of_divided16.clauses)
-  answer-of_divided16 c g r s = plainly c.𝓤 (λ e d. (same e d, refl))
 
   pub answer-of_adjusted : Tight M answer.of_adjusted.signature (λ 𝓤. answer.of_adjusted.clauses)
   answer-of_adjusted c g r s = plainly c.𝓤 (λ e d. (same e d, refl))
@@ -53,7 +30,20 @@ module _ {M : Type 1} where
   chart-chart c g r s = plainly c.𝓤 (λ e d. (same e d, refl))
 
   pub ask-ask_into : Tight M ask.ask_into.signature (λ 𝓤. ask.ask_into.clauses)
-  ask-ask_into c g r s = plainly c.𝓤 (λ e d. (same e.0 d.0, λ i. (tt, (tt, (tt, (tt, (tt, (tt, (same e.1 d.1 i, tt)))))))))
+  ask-ask_into c g r s = plainly c.𝓤 (λ e d. (same e.0 d.0, λ i. (tt, (tt, (tt, (tt, (tt, (same e.1 d.1 i, tt))))))))
 
   pub ask-ask : Tight M ask.ask.signature (λ 𝓤. ask.ask.clauses)
   ask-ask c g r s = plainly c.𝓤 (λ e d. (same e d, refl))
+
+module _ {M : Type 1} (w : Numbers) where
+  pub answer-of_c : TightAt M (record { signature = answer.of_c.signature w.N; kept = _ }) (λ 𝓤. answer.of_c.clauses w.N w.number w.methods w.clone w.cloning)
+  answer-of_c c g r s = plainly c.𝓤 (λ e d. (same e d, refl))
+
+  pub answer-of_co : TightAt M (record { signature = answer.of_co.signature w.N; kept = _ }) (λ 𝓤. answer.of_co.clauses w.N w.number w.methods w.clone w.cloning)
+  answer-of_co c g r s = plainly c.𝓤 (λ e d. (same e d, refl))
+
+  pub answer-of_coa : TightAt M (record { signature = answer.of_coa.signature w.N; kept = _ }) (λ 𝓤. answer.of_coa.clauses w.N w.number w.methods w.clone w.cloning)
+  answer-of_coa c g r s = plainly c.𝓤 (λ e d. (same e d, refl))
+
+  pub answer-of_divided : TightAt M (record { signature = answer.of_divided.signature w.N; kept = _ }) (λ 𝓤. answer.of_divided.clauses w.N w.number w.methods w.clone w.cloning)
+  answer-of_divided c g r s = plainly c.𝓤 (λ e d. (same e d, refl))

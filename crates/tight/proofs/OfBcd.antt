@@ -13,9 +13,6 @@ module _ {M : Type 1} where
   pub adjust-al : Tight M adjust.al.signature (λ 𝓤. adjust.al.clauses)
   adjust-al c g r s = plainly c.𝓤 (λ e d. (same e d, refl))
 
-  pub adjust-between : Tight M adjust.between.signature (λ 𝓤. adjust.between.clauses)
-  adjust-between c g r s = plainly c.𝓤 (λ e d. (same e d, refl))
-
   pub adjust-low_digit_adjusts : Tight M adjust.low_digit_adjusts.signature (λ 𝓤. adjust.low_digit_adjusts.clauses)
   adjust-low_digit_adjusts c g r s = plainly c.𝓤 (λ e d. (same e d, refl))
 

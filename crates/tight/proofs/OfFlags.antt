@@ -1,29 +1,31 @@
 -- Each public function of `flags` has a tight contract. Assumes nothing.
-use mathlib.Core.Path.{refl}
+use mathlib.Core.Path.{◌≡◌, refl}
+use Prim.Native.Nat.{◌<◌}
 use Rattle.flags.specs.contracts.parity
-use Rattle.flags.specs.contracts.width
+use Rattle.flags.specs.contracts.number
 use Rattle.flags.specs.contracts.word
-use Rattle.tight.specs.Tight.{Tight}
-use Rattle.tight.proofs.Law.{plainly, same, one_table}
+use Rattle.tight.specs.Numbers.{Numbers}
+use Rattle.tight.specs.Tight.{Tight, TightAt}
+use Rattle.tight.proofs.Law.{plainly, by_both, same}
 
 module _ {M : Type 1} where
-  pub parity-parity_table : Tight M parity.parity_table.signature (λ 𝓤. parity.parity_table.clauses)
-  parity-parity_table c g r s = plainly c.𝓤 (λ e d. (one_table e d, refl))
+  pub number-U8Number-wide : Tight M number.U8Number.wide.signature (λ 𝓤. number.U8Number.wide.clauses)
+  number-U8Number-wide c g r s = by_both c.𝓤 (r.result ≡ c.args.0) (r.result < 0x100) (s.result ≡ c.args.0) (s.result < 0x100) (λ e d. (same e.0 d.0, refl))
+
+  pub number-U8Number-cut : Tight M number.U8Number.cut.signature (λ 𝓤. number.U8Number.cut.clauses)
+  number-U8Number-cut c g r s = plainly c.𝓤 (λ e d. (same e d, refl))
+
+  pub number-U16Number-wide : Tight M number.U16Number.wide.signature (λ 𝓤. number.U16Number.wide.clauses)
+  number-U16Number-wide c g r s = by_both c.𝓤 (r.result ≡ c.args.0) (r.result < 0x1_0000) (s.result ≡ c.args.0) (s.result < 0x1_0000) (λ e d. (same e.0 d.0, refl))
+
+  pub number-U16Number-cut : Tight M number.U16Number.cut.signature (λ 𝓤. number.U16Number.cut.clauses)
+  number-U16Number-cut c g r s = plainly c.𝓤 (λ e d. (same e d, refl))
 
   pub parity-parity : Tight M parity.parity.signature (λ 𝓤. parity.parity.clauses)
   parity-parity c g r s = plainly c.𝓤 (λ e d. (same e d, refl))
 
-  pub width-Width8-set_szp_flags_from_result_u8 : Tight M width.Width8.set_szp_flags_from_result_u8.signature (λ 𝓤. width.Width8.set_szp_flags_from_result_u8.clauses)
-  width-Width8-set_szp_flags_from_result_u8 c g r s = plainly c.𝓤 (λ e d. (same e d, refl))
-
-  pub width-Width16-set_szp_flags_from_result_u16 : Tight M width.Width16.set_szp_flags_from_result_u16.signature (λ 𝓤. width.Width16.set_szp_flags_from_result_u16.clauses)
-  width-Width16-set_szp_flags_from_result_u16 c g r s = plainly c.𝓤 (λ e d. (same e d, refl))
-
   pub word-Flags-from_word : Tight M word.Flags.from_word.signature (λ 𝓤. word.Flags.from_word.clauses)
   word-Flags-from_word c g r s = plainly c.𝓤 (λ e d. (same e d, refl))
-
-  pub word-Flags-to_word : Tight M word.Flags.to_word.signature (λ 𝓤. word.Flags.to_word.clauses)
-  word-Flags-to_word c g r s = plainly c.𝓤 (λ e d. (same e d, refl))
 
   pub word-Flags-is_flags : Tight M word.Flags.is_flags.signature (λ 𝓤. word.Flags.is_flags.clauses)
   word-Flags-is_flags c g r s = plainly c.𝓤 (λ e d. (same e d, refl))
@@ -36,3 +38,13 @@ module _ {M : Type 1} where
 
   pub word-Flags-with_coa : Tight M word.Flags.with_coa.signature (λ 𝓤. word.Flags.with_coa.clauses)
   word-Flags-with_coa c g r s = plainly c.𝓤 (λ e d. (same e d, refl))
+
+  pub word-U16FromFlags-from : Tight M word.U16FromFlags.from.signature (λ 𝓤. word.U16FromFlags.from.clauses)
+  word-U16FromFlags-from c g r s = plainly c.𝓤 (λ e d. (same e d, refl))
+
+module _ {M : Type 1} (w : Numbers) where
+  pub word-Flags-set_szp_flags_from_result : TightAt M (record { signature = word.Flags.set_szp_flags_from_result.signature w.N; kept = _ }) (λ 𝓤. word.Flags.set_szp_flags_from_result.clauses w.N w.number w.methods w.clone w.cloning)
+  word-Flags-set_szp_flags_from_result c g r s = plainly c.𝓤 (λ e d. (same e d, refl))
+
+  pub number-Number-top_set : TightAt M (record { signature = number.Number.top_set.signature w.N; kept = _ }) (λ 𝓤. number.Number.top_set.clauses w.N w.number w.methods w.clone w.cloning)
+  number-Number-top_set c g r s = plainly c.𝓤 (λ e d. (same e d, refl))

@@ -6,7 +6,7 @@ use Rattle.tight.proofs.Law.{plainly, same}
 
 module _ {M : Type 1} where
   pub one-write_answer : Tight M one.write_answer.signature (λ 𝓤. one.write_answer.clauses)
-  one-write_answer c g r s = plainly c.𝓤 (λ e d. (same e.0 d.0, λ i. (tt, (tt, (tt, (same e.1 d.1 i, tt))))))
+  one-write_answer c g r s = plainly c.𝓤 (λ e d. (same e.0 d.0, λ i. (tt, (same e.1 d.1 i, tt))))
 
   pub one-answer_line : Tight M one.answer_line.signature (λ 𝓤. one.answer_line.clauses)
   one-answer_line c g r s = plainly c.𝓤 (λ e d. (same e.0 d.0, λ i. (tt, (same e.1 d.1 i, tt))))

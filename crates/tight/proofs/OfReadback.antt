@@ -1,18 +1,24 @@
 -- Each public function of `readback` has a tight contract. Assumes nothing.
-use mathlib.Core.Path.{refl}
+use mathlib.Core.Path.{◌≡◌, refl}
 use Rattle.readback.specs.contracts.judge
 use Rattle.readback.specs.contracts.one
 use Rattle.readback.specs.contracts.reader
 use Rattle.readback.specs.contracts.told
+use Rattle.readback.specs.declared.reader.Reader.{Reader}
+use Rattle.readback.specs.Reader.{Handed}
 use Rattle.tight.specs.Tight.{Tight}
 use Rattle.tight.proofs.Law.{plainly, same}
+
+-- what the iterator may hand out and leave is one
+pub reader_gives_one : (r s t : Reader) (a b : Handed) → reader.ReaderIterator.TheImpl.next_gives-value.it r a s → reader.ReaderIterator.TheImpl.next_gives-value.it r b t → (a ≡ b) × (s ≡ t)
+reader_gives_one r s t a b e d = (same e.0 d.0, λ i. record { text = same e.1 d.1 i; at = same e.2 d.2 i })
 
 module _ {M : Type 1} where
   pub judge-judge : Tight M judge.judge.signature (λ 𝓤. judge.judge.clauses)
   judge-judge c g r s = plainly c.𝓤 (λ e d. (same e d, refl))
 
-  pub judge-refusal_status : Tight M judge.refusal_status.signature (λ 𝓤. judge.refusal_status.clauses)
-  judge-refusal_status c g r s = plainly c.𝓤 (λ e d. (same e d, refl))
+  pub judge-U8FromRefusal-from : Tight M judge.U8FromRefusal.from.signature (λ 𝓤. judge.U8FromRefusal.from.clauses)
+  judge-U8FromRefusal-from c g r s = plainly c.𝓤 (λ e d. (same e d, refl))
 
   pub one-record_at : Tight M one.record_at.signature (λ 𝓤. one.record_at.clauses)
   one-record_at c g r s = plainly c.𝓤 (λ e d. (same e d, refl))
@@ -22,9 +28,6 @@ module _ {M : Type 1} where
 
   pub reader-next_at : Tight M reader.next_at.signature (λ 𝓤. reader.next_at.clauses)
   reader-next_at c g r s = plainly c.𝓤 (λ e d. (same e d, refl))
-
-  pub reader-next : Tight M reader.next.signature (λ 𝓤. reader.next.clauses)
-  reader-next c g r s = plainly c.𝓤 (λ e d. (same e.0 d.0, λ i. (record { text = same e.1 d.1 i; at = same e.2 d.2 i }, tt)))
 
   pub told-tell : Tight M told.tell.signature (λ 𝓤. told.tell.clauses)
   told-tell c g r s = plainly c.𝓤 (λ e d. (same e.0 d.0, λ i. (tt, (same e.1 d.1 i, tt))))

@@ -11,3 +11,6 @@ module _ {M : Type 1} where
 
   pub raw-Request-fits : Tight M raw.Request.fits.signature (λ 𝓤. raw.Request.fits.clauses)
   raw-Request-fits c g r s = plainly c.𝓤 (λ e d. (same e d, refl))
+
+  pub raw-Raw-with_operation : Tight M raw.Raw.with_operation.signature (λ 𝓤. raw.Raw.with_operation.clauses)
+  raw-Raw-with_operation c g r s = plainly c.𝓤 (λ e d. (same e d, refl))

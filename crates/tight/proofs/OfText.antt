@@ -7,15 +7,9 @@ use Rattle.text.specs.contracts.lines
 use Rattle.text.specs.contracts.hex
 use Rattle.text.specs.contracts.written
 use Rattle.tight.specs.Tight.{Tight}
-use Rattle.tight.proofs.Law.{plainly, same, one_table}
+use Rattle.tight.proofs.Law.{plainly, same}
 
 module _ {M : Type 1} where
-  pub digits-digit_table : Tight M digits.digit_table.signature (λ 𝓤. digits.digit_table.clauses)
-  digits-digit_table c g r s = plainly c.𝓤 (λ e d. (one_table e d, refl))
-
-  pub digits-capital_table : Tight M digits.capital_table.signature (λ 𝓤. digits.capital_table.clauses)
-  digits-capital_table c g r s = plainly c.𝓤 (λ e d. (one_table e d, refl))
-
   pub digits-digit : Tight M digits.digit.signature (λ 𝓤. digits.digit.clauses)
   digits-digit c g r s = plainly c.𝓤 (λ e d. (same e d, refl))
 
@@ -38,7 +32,7 @@ module _ {M : Type 1} where
   lines-line_end c g r s = plainly c.𝓤 (λ e d. (same e d, refl))
 
   pub lines-next_start : Tight M lines.next_start.signature (λ 𝓤. lines.next_start.clauses)
-  lines-next_start c g r s = plainly c.𝓤 (λ e d. (same e d, refl))
+  lines-next_start c g r s = plainly c.𝓤 (λ e d. (same e.1 d.1, refl))
 
   pub hex-all_digits : Tight M hex.all_digits.signature (λ 𝓤. hex.all_digits.clauses)
   hex-all_digits c g r s = plainly c.𝓤 (λ e d. (same e d, refl))
@@ -50,4 +44,4 @@ module _ {M : Type 1} where
   hex-four_digits c g r s = plainly c.𝓤 (λ e d. (same e d, refl))
 
   pub written-write : Tight M written.write.signature (λ 𝓤. written.write.clauses)
-  written-write c g r s = plainly c.𝓤 (λ e d. (refl, λ i. (tt, (tt, (tt, (tt, (tt, (tt, (same e d i, tt)))))))))
+  written-write c g r s = plainly c.𝓤 (λ e d. (refl, λ i. (tt, (tt, (tt, (tt, (tt, (same e d i, tt))))))))

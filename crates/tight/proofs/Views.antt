@@ -1,205 +1,156 @@
--- Each view of a value of one width as one over n loses nothing. Assumes nothing.
-use mathlib.Core.Path.{◌≡◌, refl, ap}
-use Prim.Native.Nat.{◌<◌}
-use native.Mathlib.Omega.{arith}
-use Rattle.alu.specs.{Result.ResultC, Result.ResultCo, Result.ResultCoa, Step.Step, Views.c8, Views.c16, Views.co8, Views.co16, Views.coa8, Views.coa16, Views.step8, Views.step16}
-use Rattle.negate.specs.{Negate.Negate, Views.negate8, Views.negate16}
-use Rattle.corx.specs.{Corx.Halves, Views.halves8, Views.halves16}
-use Rattle.multiply.specs.{Routines.Multiplied, declared.mul.Product16.Product16, Views.product8, Views.product16}
+-- Each view of a value over the numbers of one width as one over n loses nothing, where `value` loses nothing: `number` says that no two
+-- numbers of the width stand for the same. Assumes nothing.
+use mathlib.Core.Path.{◌≡◌, ap, sym, subst, ◌∙◌}
+use Prim.Native.Nat.{ℕ, ◌/◌, ◌%◌, ◌^◌, ◌<◌}
+use Rattle.std.specs.Prelude.{Option, Some, None, Ok, Err}
+use Rattle.alu.specs.Views.{c, co, coa, stepped}
+use Rattle.corx.specs.Views.{halves}
 use Rattle.cord.specs.Cord as Cord
-use Rattle.cord.specs.{declared.CordOutcome8.CordOutcome8, declared.CordOutcome8.TheVariants.Accepted as cordAccepted8, declared.CordOutcome8.TheVariants.Refused as cordRefused8}
-use Rattle.cord.specs.declared.CordOutcome16.{CordOutcome16}
-use Rattle.cord.specs.declared.CordOutcome16.TheVariants.{Accepted as cordAccepted16, Refused as cordRefused16}
-use Rattle.cord.specs.Views.{cord_outcome8, cord_outcome16, cord_answer8, cord_answer16}
+use Rattle.cord.specs.declared.Results as Results
+use Rattle.cord.specs.Views.{results, cord_outcome, cord_answer}
+use Rattle.negate.specs.Views.{negate_of}
 use Rattle.idiv.specs.Idiv as Idiv
-use Rattle.idiv.specs.{declared.PostIdiv8.PostIdiv8, declared.PostIdiv8.TheVariants.Accepted as postAccepted8, declared.PostIdiv8.TheVariants.Refused as postRefused8}
-use Rattle.idiv.specs.{declared.PostIdiv16.PostIdiv16, declared.PostIdiv16.TheVariants.Accepted as postAccepted16, declared.PostIdiv16.TheVariants.Refused as postRefused16}
-use Rattle.idiv.specs.Views.{post8_answer, post16_answer}
+use Rattle.idiv.specs.declared.PostIdiv as PostIdiv
+use Rattle.idiv.specs.Views.{post_outcome, post_answer}
 use Rattle.divide.specs.Divide as Divide
-use Rattle.divide.specs.declared.div.DivideOutcome8.{DivideOutcome8}
-use Rattle.divide.specs.declared.div.DivideOutcome8.TheVariants.{Accepted as dividedAccepted8, Refused as dividedRefused8}
-use Rattle.divide.specs.declared.div.DivideOutcome16.{DivideOutcome16}
-use Rattle.divide.specs.declared.div.DivideOutcome16.TheVariants.{Accepted as dividedAccepted16, Refused as dividedRefused16}
-use Rattle.divide.specs.Views.{outcome8, outcome16, divided8, divided16}
+use Rattle.divide.specs.declared.div.Refusal.{Refusal}
+use Rattle.divide.specs.Views.{outcome, divided}
+use lib.Arith.{digits_div, digits_mod}
+use Rattle.multiply.specs.Routines.{Multiplied}
+use Rattle.multiply.specs.declared.mul.Product as Product
+use Rattle.multiply.specs.Views.{product}
 use Rattle.tight.proofs.Law.{Faithful}
 
-pub c8_faithful : Faithful c8
-c8_faithful = record { back = λ (g : ResultC). record { result = g.result; carry = g.carry }; kept = λ a. refl }
+-- what an outcome that is accepted holds
+abbrev cord_results : Cord.Results → Cord.CordOutcome → Cord.Results
+cord_results none (Cord.accepted r) = r
+cord_results none Cord.refused = none
 
-pub c16_faithful : Faithful c16
-c16_faithful = record { back = λ (g : ResultC). record { result = g.result; carry = g.carry }; kept = λ a. refl }
+abbrev IsAccepted : Cord.CordOutcome → Type 0
+IsAccepted (Cord.accepted r) = Unit {0}
+IsAccepted Cord.refused = ⊥
 
-pub co8_faithful : Faithful co8
-co8_faithful = record { back = λ (g : ResultCo). record { result = g.result; carry = g.carry; overflow = g.overflow }; kept = λ a. refl }
+-- what POSTIDIV's answer holds, and k where it holds none
+abbrev post_quotient : ℕ → Idiv.PostAnswer → ℕ
+post_quotient k (Idiv.accepted q r t) = q
+post_quotient k (Idiv.refused t) = k
 
-pub co16_faithful : Faithful co16
-co16_faithful = record { back = λ (g : ResultCo). record { result = g.result; carry = g.carry; overflow = g.overflow }; kept = λ a. refl }
+abbrev post_remainder : ℕ → Idiv.PostAnswer → ℕ
+post_remainder k (Idiv.accepted q r t) = r
+post_remainder k (Idiv.refused t) = k
 
-pub coa8_faithful : Faithful coa8
-coa8_faithful = record { back = λ (g : ResultCoa). record { result = g.result; carry = g.carry; overflow = g.overflow; aux_carry = g.aux_carry }; kept = λ a. refl }
+abbrev post_steps : Idiv.PostAnswer → ℕ
+post_steps (Idiv.accepted q r t) = t
+post_steps (Idiv.refused t) = t
 
-pub coa16_faithful : Faithful coa16
-coa16_faithful = record { back = λ (g : ResultCoa). record { result = g.result; carry = g.carry; overflow = g.overflow; aux_carry = g.aux_carry }; kept = λ a. refl }
+abbrev IsPosted : Idiv.PostAnswer → Type 0
+IsPosted (Idiv.accepted q r t) = Unit {0}
+IsPosted (Idiv.refused t) = ⊥
 
-pub step8_faithful : Faithful step8
-step8_faithful = record { back = λ (g : Step). record { value = g.value; carry = g.carry }; kept = λ a. refl }
+-- what a divide's outcome holds
+abbrev divide_results : Cord.Results → Divide.DivideOutcome → Cord.Results
+divide_results none (Divide.accepted r) = r
+divide_results none (Divide.refused why) = none
 
-pub step16_faithful : Faithful step16
-step16_faithful = record { back = λ (g : Step). record { value = g.value; carry = g.carry }; kept = λ a. refl }
+abbrev divide_refusal : Refusal → Divide.DivideOutcome → Refusal
+divide_refusal none (Divide.accepted r) = none
+divide_refusal none (Divide.refused why) = why
 
-pub negate8_faithful : Faithful negate8
-negate8_faithful = record { back = λ (g : Negate). record { tmpa = g.tmpa; tmpb = g.tmpb; tmpc = g.tmpc; carry = g.carry; neg_flag = g.neg_flag; steps = g.steps }; kept = λ a. refl }
+abbrev IsDivided : Divide.DivideOutcome → Type 0
+IsDivided (Divide.accepted r) = Unit {0}
+IsDivided (Divide.refused why) = ⊥
 
-pub negate16_faithful : Faithful negate16
-negate16_faithful = record { back = λ (g : Negate). record { tmpa = g.tmpa; tmpb = g.tmpb; tmpc = g.tmpc; carry = g.carry; neg_flag = g.neg_flag; steps = g.steps }; kept = λ a. refl }
+module _ {N : Type 0} (value : N → ℕ) (number : Faithful value) where
+  pub c_faithful : Faithful (c value)
+  c_faithful r s e = let x = number r.result s.result (λ i. (e i).result) in λ i. record { result = x i; carry = (e i).carry }
 
-pub halves8_faithful : Faithful halves8
-halves8_faithful = record { back = λ (g : Halves). record { tmpa = g.tmpa; tmpc = g.tmpc; steps = g.steps }; kept = λ a. refl }
+  pub co_faithful : Faithful (co value)
+  co_faithful r s e =
+      let x = number r.result s.result (λ i. (e i).result) in
+      λ i. record { result = x i; carry = (e i).carry; overflow = (e i).overflow }
 
-pub halves16_faithful : Faithful halves16
-halves16_faithful = record { back = λ (g : Halves). record { tmpa = g.tmpa; tmpc = g.tmpc; steps = g.steps }; kept = λ a. refl }
+  pub coa_faithful : Faithful (coa value)
+  coa_faithful r s e =
+      let x = number r.result s.result (λ i. (e i).result) in
+      λ i. record { result = x i; carry = (e i).carry; overflow = (e i).overflow; aux_carry = (e i).aux_carry }
 
-pub product8_faithful : Faithful product8
-product8_faithful = record { back = λ (g : Multiplied). record { product = g.product; flags = g.flags; steps = g.steps }; kept = λ a. refl }
+  pub stepped_faithful : Faithful (stepped value)
+  stepped_faithful r s e = let x = number r.value s.value (λ i. (e i).value) in λ i. record { value = x i; carry = (e i).carry }
 
--- its halves are read back from a product whose lower half is 16 bits, as the type says
-pub product16_tight : (r s : Product16) → r.lower < 0x1_0000 → s.lower < 0x1_0000 → product16 r ≡ product16 s → r ≡ s
-product16_tight r s b c e =
-    let all = ap (λ (m : Multiplied). m.product) e in
-    let upper : r.upper ≡ s.upper = omega (arith, all, b, c) in
-    let lower : r.lower ≡ s.lower = omega (arith, all, b, c) in
-    λ i. record { upper = upper i; lower = lower i; flags = (e i).flags; steps = (e i).steps }
+  pub halves_faithful : Faithful (halves value)
+  halves_faithful r s e =
+      let a = number r.tmpa s.tmpa (λ i. (e i).tmpa) in
+      let c = number r.tmpc s.tmpc (λ i. (e i).tmpc) in
+      λ i. record { tmpa = a i; tmpc = c i; steps = (e i).steps }
 
-abbrev cord_outcome8_back : Cord.CordOutcome → CordOutcome8
-cord_outcome8_back (Cord.accepted r) = cordAccepted8 (record { quotient = r.quotient; remainder = r.remainder })
-cord_outcome8_back Cord.refused = cordRefused8
+  pub results_faithful : Faithful (results value)
+  results_faithful r s e =
+      let q = number r.quotient s.quotient (λ i. (e i).quotient) in
+      let m = number r.remainder s.remainder (λ i. (e i).remainder) in
+      λ i. record { quotient = q i; remainder = m i }
 
-cord_outcome8_kept : (o : CordOutcome8) → cord_outcome8_back (cord_outcome8 o) ≡ o
-cord_outcome8_kept (cordAccepted8 r) = refl
-cord_outcome8_kept cordRefused8 = refl
+  pub cord_outcome_faithful : Faithful (cord_outcome value)
+  cord_outcome_faithful (Some r) (Some s) e =
+      ap (λ (x : Results.Results N). Some x) (results_faithful r s (ap (cord_results (results value r)) e))
+  cord_outcome_faithful None None e = λ i. None
+  cord_outcome_faithful (Some r) None e = absurd (subst IsAccepted e tt)
+  cord_outcome_faithful None (Some s) e = absurd (subst IsAccepted (sym e) tt)
 
-pub cord_answer8_faithful : Faithful cord_answer8
-cord_answer8_faithful =
-    record {
-      back = λ (g : Cord.CordAnswer). record {
-        outcome = cord_outcome8_back g.outcome;
-        carry = g.carry;
-        compared = g.compared;
-        shifted_out = g.roads.shifted_out;
-        no_borrow = g.roads.no_borrow;
-        steps = g.steps;
-      };
-      kept = λ a. λ i. record {
-        outcome = cord_outcome8_kept a.outcome i;
-        carry = a.carry;
-        compared = a.compared;
-        shifted_out = a.shifted_out;
-        no_borrow = a.no_borrow;
-        steps = a.steps;
-      };
-    }
+  pub cord_answer_faithful : Faithful (cord_answer value)
+  cord_answer_faithful r s e =
+      let o = cord_outcome_faithful r.outcome s.outcome (λ i. (e i).outcome) in
+      let c = number r.compared s.compared (λ i. (e i).compared) in
+      λ i. record {
+        outcome = o i;
+        carry = (e i).carry;
+        compared = c i;
+        roads = record { shifted_out = (e i).roads.shifted_out; no_borrow = (e i).roads.no_borrow };
+        steps = (e i).steps;
+      }
 
-abbrev cord_outcome16_back : Cord.CordOutcome → CordOutcome16
-cord_outcome16_back (Cord.accepted r) = cordAccepted16 (record { quotient = r.quotient; remainder = r.remainder })
-cord_outcome16_back Cord.refused = cordRefused16
+  pub negate_faithful : Faithful (negate_of value)
+  negate_faithful r s e =
+      let a = number r.tmpa s.tmpa (λ i. (e i).tmpa) in
+      let b = number r.tmpb s.tmpb (λ i. (e i).tmpb) in
+      let c = number r.tmpc s.tmpc (λ i. (e i).tmpc) in
+      λ i. record { tmpa = a i; tmpb = b i; tmpc = c i; carry = (e i).carry; neg_flag = (e i).neg_flag; steps = (e i).steps }
 
-cord_outcome16_kept : (o : CordOutcome16) → cord_outcome16_back (cord_outcome16 o) ≡ o
-cord_outcome16_kept (cordAccepted16 r) = refl
-cord_outcome16_kept cordRefused16 = refl
+  pub post_answer_faithful : Faithful (post_answer value)
+  post_answer_faithful r s e = by r.outcome s.outcome e
+    where
+      by : (o p : Option (Results.Results N)) → post_outcome value o r.steps ≡ post_outcome value p s.steps
+          → ◌≡◌ {A = PostIdiv.PostIdiv N} (record { outcome = o; steps = r.steps }) (record { outcome = p; steps = s.steps })
+      by (Some x) (Some y) e =
+          let q = number x.quotient y.quotient (ap (post_quotient 0) e) in
+          let m = number x.remainder y.remainder (ap (post_remainder 0) e) in
+          λ i. record { outcome = Some (record { quotient = q i; remainder = m i }); steps = post_steps (e i) }
+      by None None e = λ i. record { outcome = None; steps = post_steps (e i) }
+      by (Some x) None e = absurd (subst IsPosted e tt)
+      by None (Some y) e = absurd (subst IsPosted (sym e) tt)
 
-pub cord_answer16_faithful : Faithful cord_answer16
-cord_answer16_faithful =
-    record {
-      back = λ (g : Cord.CordAnswer). record {
-        outcome = cord_outcome16_back g.outcome;
-        carry = g.carry;
-        compared = g.compared;
-        shifted_out = g.roads.shifted_out;
-        no_borrow = g.roads.no_borrow;
-        steps = g.steps;
-      };
-      kept = λ a. λ i. record {
-        outcome = cord_outcome16_kept a.outcome i;
-        carry = a.carry;
-        compared = a.compared;
-        shifted_out = a.shifted_out;
-        no_borrow = a.no_borrow;
-        steps = a.steps;
-      };
-    }
+  pub outcome_faithful : Faithful (outcome value)
+  outcome_faithful (Ok r) (Ok s) e =
+      ap (λ (x : Results.Results N). Ok x) (results_faithful r s (ap (divide_results (results value r)) e))
+  outcome_faithful (Err r) (Err s) e = ap (λ (x : Refusal). Err x) (ap (divide_refusal r) e)
+  outcome_faithful (Ok r) (Err why) e = absurd (subst IsDivided e tt)
+  outcome_faithful (Err why) (Ok s) e = absurd (subst IsDivided (sym e) tt)
 
-abbrev post8_answer_back : Idiv.PostAnswer → PostIdiv8
-post8_answer_back (Idiv.accepted q r t) = postAccepted8 q r t
-post8_answer_back (Idiv.refused t) = postRefused8 t
+  pub divided_faithful : Faithful (divided value)
+  divided_faithful r s e =
+      let o = outcome_faithful r.outcome s.outcome (λ i. (e i).outcome) in
+      λ i. record {
+        outcome = o i;
+        flags = (e i).flags;
+        roads = record { shifted_out = (e i).roads.shifted_out; no_borrow = (e i).roads.no_borrow };
+        steps = (e i).steps;
+      }
 
-post8_answer_kept : (a : PostIdiv8) → post8_answer_back (post8_answer a) ≡ a
-post8_answer_kept (postAccepted8 q r t) = refl
-post8_answer_kept (postRefused8 t) = refl
-
-pub post8_answer_faithful : Faithful post8_answer
-post8_answer_faithful = record { back = post8_answer_back; kept = post8_answer_kept }
-
-abbrev post16_answer_back : Idiv.PostAnswer → PostIdiv16
-post16_answer_back (Idiv.accepted q r t) = postAccepted16 q r t
-post16_answer_back (Idiv.refused t) = postRefused16 t
-
-post16_answer_kept : (a : PostIdiv16) → post16_answer_back (post16_answer a) ≡ a
-post16_answer_kept (postAccepted16 q r t) = refl
-post16_answer_kept (postRefused16 t) = refl
-
-pub post16_answer_faithful : Faithful post16_answer
-post16_answer_faithful = record { back = post16_answer_back; kept = post16_answer_kept }
-
-abbrev outcome8_back : Divide.DivideOutcome → DivideOutcome8
-outcome8_back (Divide.accepted r) = dividedAccepted8 (record { quotient = r.quotient; remainder = r.remainder })
-outcome8_back (Divide.refused why) = dividedRefused8 why
-
-outcome8_kept : (o : DivideOutcome8) → outcome8_back (outcome8 o) ≡ o
-outcome8_kept (dividedAccepted8 r) = refl
-outcome8_kept (dividedRefused8 why) = refl
-
-pub divided8_faithful : Faithful divided8
-divided8_faithful =
-    record {
-      back = λ (g : Divide.Divided). record {
-        outcome = outcome8_back g.outcome;
-        flags = g.flags;
-        shifted_out = g.roads.shifted_out;
-        no_borrow = g.roads.no_borrow;
-        steps = g.steps;
-      };
-      kept = λ d. λ i. record {
-        outcome = outcome8_kept d.outcome i;
-        flags = d.flags;
-        shifted_out = d.shifted_out;
-        no_borrow = d.no_borrow;
-        steps = d.steps;
-      };
-    }
-
-abbrev outcome16_back : Divide.DivideOutcome → DivideOutcome16
-outcome16_back (Divide.accepted r) = dividedAccepted16 (record { quotient = r.quotient; remainder = r.remainder })
-outcome16_back (Divide.refused why) = dividedRefused16 why
-
-outcome16_kept : (o : DivideOutcome16) → outcome16_back (outcome16 o) ≡ o
-outcome16_kept (dividedAccepted16 r) = refl
-outcome16_kept (dividedRefused16 why) = refl
-
-pub divided16_faithful : Faithful divided16
-divided16_faithful =
-    record {
-      back = λ (g : Divide.Divided). record {
-        outcome = outcome16_back g.outcome;
-        flags = g.flags;
-        shifted_out = g.roads.shifted_out;
-        no_borrow = g.roads.no_borrow;
-        steps = g.steps;
-      };
-      kept = λ d. λ i. record {
-        outcome = outcome16_kept d.outcome i;
-        flags = d.flags;
-        shifted_out = d.shifted_out;
-        no_borrow = d.no_borrow;
-        steps = d.steps;
-      };
-    }
+  -- the halves are read back from a product whose lower half is below 2 ^ n
+  pub product_tight : (n : ℕ) (r s : Product.Product N) → value r.lower < 2 ^ n → value s.lower < 2 ^ n → product n value r ≡ product n value s → r ≡ s
+  product_tight n r s b c e =
+      let both = ap (λ (m : Multiplied). m.product) e in
+      let high = sym (digits_div (value r.upper) b) ∙ ap (λ (p : ℕ). p / 2 ^ n) both ∙ digits_div (value s.upper) c in
+      let low = sym (digits_mod (value r.upper) b) ∙ ap (λ (p : ℕ). p % 2 ^ n) both ∙ digits_mod (value s.upper) c in
+      let u = number r.upper s.upper high in
+      let l = number r.lower s.lower low in
+      λ i. record { upper = u i; lower = l i; flags = (e i).flags; steps = (e i).steps }

@@ -1,11 +1,9 @@
 -- The table's rows of a divide, and what they make of whether it would trap. Assumes nothing.
-use mathlib.Core.{Path.◌≡◌, Path.refl, Path.sym, Path.ap, Path.◌∙◌, Bool.Bool, Bool.true, Bool.false, Bool.not, Bool.◌||◌}
-use Prim.Native.Nat.{ℕ, ◌+◌, ◌%◌, ◌^◌, ◌≤◌, ◌<◌}
-use native.Mathlib.{Nat.mod-eq_of_lt, Omega.arith}
-use mir.Val.{bool_byte}
+use mathlib.Core.{Path.◌≡◌, Path.refl, Path.sym, Path.ap, Path.◌∙◌, Bool.Bool, Bool.true, Bool.false, Bool.not, Bool.◌||◌, Logic.◌⊎◌, Logic.inl, Logic.inr}
+use Prim.Native.Nat.{ℕ, ◌+◌, ◌^◌, ◌≤◌, ◌<◌}
 use lib.{Bits.bit_and, Dec.ltb, Dec.eqb}
-use borrow.Author.Tests.{lt-ltb, le-ltb, lt-leb, ltb-false}
-use Rattle.numbers.proofs.{BoolLaws.neither, Masks.mask_bit, Masks.set_masked, Masks.set_unmasked}
+use borrow.Author.Tests.{lt-ltb, le-ltb, lt-leb}
+use Rattle.numbers.proofs.{Masks.mask_bit, Masks.set_masked, Masks.set_unmasked}
 use Rattle.numbers.specs.Numbers.{bit, is_set}
 use Rattle.divide.specs.{Divide.accepts, declared.div.Refusal.TheVariants.ZeroDivisor, declared.div.Refusal.TheVariants.TooWide, declared.div.Refusal.TheVariants.SignRange}
 use Rattle.divide.proofs.Refusals.{three_cover}
@@ -42,32 +40,23 @@ module _ (mode x y : ℕ) where
 
 -- ---- how the code tells it, by the width that the mode names
 
--- an answer as a byte
-byte-bit : {t u : Bool} → t ≡ u → bool_byte t ≡ bit u
-byte-bit {t} e = by t ∙ ap bit e
-  where
-    by : (t : Bool) → bool_byte t ≡ bit t
-    by true = refl
-    by false = refl
+or_true : (k : Bool) → k || true ≡ true
+or_true true = refl
+or_true false = refl
 
 module _ (mode x y : ℕ) (hm : mode ≤ 0x07) where
   -- sixteen bits have room for every operand
-  pub told-word : (bit_and mode 0x01 ≡ 0 → ⊥) → x < 2 ^ 32 → y < 2 ^ 16 → {t : Bool} → t ≡ not (accepts 16 (not (eqb (bit_and mode 0x02) 0)) x y)
-      → trap_told 0 (bool_byte t) ≡ would_trap mode x y
-  told-word h hx hy e =
+  pub told_word : (bit_and mode 0x01 ≡ 0 → ⊥) → x < 2 ^ 32 → y < 2 ^ 16 → {t : Bool} → t ≡ not (accepts 16 (not (eqb (bit_and mode 0x02) 0)) x y) → trap_told 0 (bit t) ≡ would_trap mode x y
+  told_word h hx hy e =
       let wide = set_masked 0 mode h in
-      ap (trap_told 0) (byte-bit e ∙ λ i. bit (not (accepts 16 (mask_bit 1 mode i) x y))) ∙ sym (told_admitted mode x y hm (rw wide hx) (rw wide hy) ∙ rw wide)
+      (λ i. trap_told 0 (bit (e i))) ∙ (λ i. trap_told 0 (bit (not (accepts 16 (mask_bit 1 mode i) x y)))) ∙ sym (told_admitted mode x y hm (rw wide hx) (rw wide hy) ∙ rw wide)
 
   module _ (h : bit_and mode 0x01 ≡ 0) where
-    pub told_byte_large : ltb 0xFFFF x || ltb 0xFF y ≡ true → trap_told 5 1 ≡ would_trap mode x y
-    told_byte_large e = sym (told_large mode x y hm (rw (set_unmasked 0 mode h) e))
+    pub told_byte_large : (0xFFFF < x) ⊎ (0xFF < y) → trap_told 5 1 ≡ would_trap mode x y
+    told_byte_large (inl e) = sym (told_large mode x y hm (rw (set_unmasked 0 mode h, lt-ltb 0xFFFF x e)))
+    told_byte_large (inr e) = sym (told_large mode x y hm (rw (set_unmasked 0 mode h, lt-ltb 0xFF y e) (or_true (ltb 0xFFFF x))))
 
-    pub told-byte : ltb 0xFFFF x || ltb 0xFF y ≡ false → {t : Bool} → t ≡ not (accepts 8 (not (eqb (bit_and mode 0x02) 0)) (x % 0x1_0000) (y % 0x100))
-        → trap_told 0 (bool_byte t) ≡ would_trap mode x y
-    told-byte f e =
-        let fit = neither (ltb 0xFFFF x) (ltb 0xFF y) f in
-        let hx : x < 0x1_0000 = omega (arith, ltb-false 0xFFFF x fit.0) in
-        let hy : y < 0x100 = omega (arith, ltb-false 0xFF y fit.1) in
+    pub told_byte : x < 2 ^ 16 → y < 2 ^ 8 → {t : Bool} → t ≡ not (accepts 8 (not (eqb (bit_and mode 0x02) 0)) x y) → trap_told 0 (bit t) ≡ would_trap mode x y
+    told_byte hx hy e =
         let narrow = set_unmasked 0 mode h in
-        ap (trap_told 0) (byte-bit e ∙ λ i. bit (not (accepts 8 (mask_bit 1 mode i) (mod-eq_of_lt hx i) (mod-eq_of_lt hy i))))
-        ∙ sym (told_admitted mode x y hm (rw narrow hx) (rw narrow hy) ∙ rw narrow)
+        (λ i. trap_told 0 (bit (e i))) ∙ (λ i. trap_told 0 (bit (not (accepts 8 (mask_bit 1 mode i) x y)))) ∙ sym (told_admitted mode x y hm (rw narrow hx) (rw narrow hy) ∙ rw narrow)

@@ -1,10 +1,12 @@
 // Whether a divide is refused, with no quotient worked out: one comparison of the dividend's magnitude
 // with the divisor's. Both are held in 64 bits, since a negative dividend of 32 bits is taken from 2 ^ 32.
-ghost use Rattle.std.specs.Prelude.{true, not, ◌≡◌, ◌+◌, ◌^◌, ◌≤◌, ◌<◌};
+// The width is a number of bits, and only `divide_traps` is over the trait Number: a dividend may have 32, which no
+// Number has.
+ghost use Rattle.std.specs.Prelude.{true, not, ◌≡◌, ◌+◌, ◌*◌, ◌^◌, ◌≤◌, ◌<◌};
 ghost use Rattle.numbers.specs.Numbers.{magnitude};
 ghost use Rattle.divide.specs.Divide.{accepts};
 
-use flags::width::{Width8, Width16};
+use flags::number::Number;
 
 fn power(bits: u32) -> u64
     requires { bits ≤ 32 }
@@ -40,15 +42,10 @@ pub fn would_trap(bits: u32, dividend: u64, divisor: u64, signed: bool) -> bool
     }
 }
 
-// REP changes nothing of it, so there is none here.
-pub fn would_trap8(dividend: u16, divisor: u8, signed: bool) -> bool
-    ensures { result ≡ not (accepts 8 signed dividend divisor) }
+// The dividend is given as its two halves, as the divide takes it. REP changes nothing of it, so there is none here.
+pub fn divide_traps<N: Number>(upper: N, lower: N, divisor: N, signed: bool) -> bool
+    ensures { result ≡ not (accepts N.BITS signed (N.value upper * 2 ^ N.BITS + N.value lower) (N.value divisor)) }
 {
-    would_trap(Width8::BITS, dividend as u64, divisor as u64, signed)
-}
-
-pub fn would_trap16(dividend: u32, divisor: u16, signed: bool) -> bool
-    ensures { result ≡ not (accepts 16 signed dividend divisor) }
-{
-    would_trap(Width16::BITS, dividend as u64, divisor as u64, signed)
+    let dividend = ((upper.wide() as u64) << N::BITS) + lower.wide() as u64;
+    would_trap(N::BITS, dividend, divisor.wide() as u64, signed)
 }

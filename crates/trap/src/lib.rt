@@ -1,39 +1,48 @@
-// Whether a divide given as numbers, which no caller has checked, would trap. A mode or an operand that a
-// divide does not have is told by its status.
+// Whether a divide given as numbers, which no caller has checked, would trap.
 #![tactic(auto)]
 
 pub mod compare;
+pub mod told;
 
 ghost use Rattle.std.specs.Prelude.{◌≡◌};
-ghost use Rattle.trap.specs.Told.{trap_told, would_trap};
+ghost use Rattle.trap.specs.declared.Unasked.TheVariants.{TooLarge};
+ghost use Rattle.trap.specs.Told.{told_as, would_trap};
 
-use flags::width::{Width8, Width16};
+use flags::number::Number;
+use std::num::TryFromIntError;
 
-// What cannot be asked is said to trap, so that who looks at nothing else sees closed.
-fn closed(status: u8, trap: &mut u8) -> u8
-    ensures { trap_told result trap.new ≡ trap_told status 1 }
-{
-    *trap = 1;
-    status
+// Why a divide cannot be asked about: it has no such mode, which is status 4, or takes no such operand, status 5.
+#[derive(Clone, Copy, Debug, PartialEq, Eq)]
+pub enum Unasked {
+    WrongMode,
+    TooLarge,
 }
 
-// The limits of a divide are tested here too, and the law `told_by-rows` holds them to the table of statuses. With a
-// second caller the compiler would no longer inline `request::decode` into `ask`, and every request would take longer.
-pub fn would_trap(mode: u8, dividend: u32, divisor: u16, trap: &mut u8) -> u8
-    ensures { trap_told result trap.new ≡ would_trap mode dividend divisor }
+// An operand that does not fit its width.
+impl From<TryFromIntError> for Unasked {
+    ghost from_gives = { λ _ e. e ≡ TooLarge };
+
+    fn from(_: TryFromIntError) -> Unasked {
+        Unasked::TooLarge
+    }
+}
+
+// The limits of a divide are tested here and in `roads`, each time for the types that follow. They are in `answer` too,
+// and the law `told_by-rows` holds them to the table of statuses. With a second caller the compiler would no longer
+// inline `request::decode` into `ask`, and every request would take longer.
+#[tactic(auto, using(crate::proofs::Rows::told_mode, crate::proofs::Rows::told_word, crate::proofs::Rows::told_byte_large, crate::proofs::Rows::told_byte))]
+pub fn would_trap(mode: u8, dividend: u32, divisor: u16) -> Result<bool, Unasked>
+    ensures { told_as result ≡ would_trap mode dividend divisor }
 {
     if mode > 0x07 {
-        return closed(4, trap);
+        return Err(Unasked::WrongMode);
     }
     let signed = mode & 0x02 != 0;
     if mode & 0x01 != 0 {
-        *trap = compare::would_trap16(dividend, divisor, signed) as u8;
-        return 0;
+        let (upper, lower) = (u16::cut(dividend >> 16), u16::cut(dividend));
+        return Ok(compare::divide_traps(upper, lower, divisor, signed));
     }
-    if (dividend > Width16::MAX as u32) | (divisor > Width8::MAX as u16) {
-        return closed(5, trap);
-    }
-    let key = (dividend % 0x1_0000) as u16;
-    *trap = compare::would_trap8(key, (divisor % 0x100) as u8, signed) as u8;
-    0
+    let [upper, lower] = u16::try_from(dividend)?.to_be_bytes();
+    let divisor = u8::try_from(divisor)?;
+    Ok(compare::divide_traps(upper, lower, divisor, signed))
 }

@@ -37,14 +37,14 @@ pub struct Flags {
     pub overflow: bool,
 }
 
-/// The upper and the lower half of a product of 32 bits.
+/// The upper and the lower half of a product.
 #[repr(C)]
-pub struct Halves {
-    pub upper: u16,
-    pub lower: u16,
+pub struct Halves<T> {
+    pub upper: T,
+    pub lower: T,
 }
 
-/// The port's `Product8`, `Product16` and `Adjusted`.
+/// The port's `Product` and `Adjusted`.
 #[repr(C)]
 pub struct Done<R, F> {
     pub given: R,
@@ -52,20 +52,20 @@ pub struct Done<R, F> {
     pub steps: u16,
 }
 
-/// The port's `Divided8` and `Divided16`.
+/// The port's `Divided`.
 #[repr(C)]
 pub struct Divided<T> {
-    pub given: DivideOutcome<T>,
+    pub given: Outcome<T>,
     pub flags: Flags,
-    pub shifted_out: u16,
-    pub no_borrow: u16,
+    pub roads: Roads,
     pub steps: u16,
 }
 
+/// The `Result` of the port's divide, which has a byte for what it is, 0 or 1, before what it holds.
 #[repr(u8)]
-pub enum DivideOutcome<T> {
-    Accepted(Results<T>),
-    Refused(Refusal),
+pub enum Outcome<T> {
+    Ok(Results<T>),
+    Err(Refusal),
 }
 
 #[repr(C)]
@@ -79,6 +79,12 @@ pub enum Refusal {
     ZeroDivisor,
     TooWide,
     SignRange,
+}
+
+#[repr(C)]
+pub struct Roads {
+    pub shifted_out: u16,
+    pub no_borrow: u16,
 }
 
 impl<T> From<(T, bool)> for ResultC<T> {

@@ -43,7 +43,7 @@ pub fn mul8(out: &mut Out<u16>, x: u8, y: u8, signed: bool, rep: bool, flags: u1
 }
 
 #[inline(never)]
-pub fn mul16(out: &mut Out<Halves>, x: u16, y: u16, signed: bool, rep: bool, flags: u16) {
+pub fn mul16(out: &mut Out<Halves<u16>>, x: u16, y: u16, signed: bool, rep: bool, flags: u16) {
     let mut cpu = Intel808x::with(0, flags);
     let (upper, lower) = cpu.mul16(x, y, signed, rep);
     done(out, Halves { upper, lower }, &cpu);

@@ -1,7 +1,7 @@
 //! What a function wrote, as the numbers of an answer, so that the two sides can be compared.
 
 use super::given::{
-    DivideOutcome, Divided, Done, Flags, Halves, Refusal, ResultC, ResultCo, ResultCoa, Results,
+    Divided, Done, Flags, Halves, Outcome, Refusal, ResultC, ResultCo, ResultCoa, Results,
 };
 use crate::asked::Asked;
 use crate::sides::{theirs, Numbers};
@@ -37,7 +37,15 @@ impl<F: Into<u16>> Told for Done<u16, F> {
     }
 }
 
-impl<F: Into<u16>> Told for Done<Halves, F> {
+/// A product of 16 bits is one number of an answer, and one of 32 bits two.
+impl<F: Into<u16>> Told for Done<Halves<u8>, F> {
+    fn told(self, _asked: Asked) -> Numbers {
+        let product = u16::from_be_bytes([self.given.upper, self.given.lower]);
+        accepted(self.flags, self.steps, product, 0_u16)
+    }
+}
+
+impl<F: Into<u16>> Told for Done<Halves<u16>, F> {
     fn told(self, _asked: Asked) -> Numbers {
         accepted(self.flags, self.steps, self.given.upper, self.given.lower)
     }
@@ -66,13 +74,11 @@ impl From<Refusal> for Refused {
 impl<T: Into<u16>> Told for Divided<T> {
     fn told(self, _asked: Asked) -> Numbers {
         match self.given {
-            DivideOutcome::Accepted(Results {
+            Outcome::Ok(Results {
                 quotient,
                 remainder,
             }) => accepted(self.flags, self.steps, quotient, remainder),
-            DivideOutcome::Refused(why) => {
-                refused(Refused::from(why).status(), self.flags, self.steps)
-            }
+            Outcome::Err(why) => refused(Refused::from(why).status(), self.flags, self.steps),
         }
     }
 }

@@ -1,8 +1,7 @@
 //! The port's bare function that tells what would trap, beside its own bare divide. MartyPC has none.
 
-use super::given::{DivideOutcome, Divided, Flags};
+use super::given::{Divided, Flags, Outcome};
 use super::port;
-use super::processor::TABLE;
 use crate::bench::keys::Keys;
 use crate::bench::table::{self, Row};
 use crate::trap::call::Call;
@@ -16,23 +15,24 @@ pub fn print() -> Result<(), String> {
 }
 
 macro_rules! both {
-    ($keys:ident, $flags:ident: $tells:ident, $divide:ident($dividend:ty, $divisor:ty)) => {{
+    ($keys:ident, $flags:ident: $width:ident($number:ty)) => {{
         let signed = $keys.calls[0].is_signed();
+        let upper = |dividend: u32| (dividend >> <$number>::BITS) as $number;
         let tells = |call: Call, trap: &mut u8| {
-            let (x, y) = (call.dividend as $dividend, call.divisor as $divisor);
+            let (x, y) = (call.dividend, call.divisor as $number);
             // SAFETY: it is declared as the library has it, and touches nothing.
-            *trap = unsafe { port::$tells(x, y, signed) }.into();
+            *trap = unsafe { port::$width::divide_traps(upper(x), x as $number, y, signed) }.into();
             0
         };
         let divides = |call: Call, trap: &mut u8| {
-            let (x, y) = (call.dividend as $dividend, call.divisor as $divisor);
-            let mut out: MaybeUninit<Divided<$divisor>> = MaybeUninit::uninit();
+            let (x, y) = (call.dividend, call.divisor as $number);
+            let mut out: MaybeUninit<Divided<$number>> = MaybeUninit::uninit();
             // SAFETY: it is declared as the library has it, and writes all of its result.
             let divided = unsafe {
-                port::$divide(&mut out, x, y, signed, false, &$flags, &TABLE);
+                port::$width::div(&mut out, upper(x), x as $number, y, signed, false, &$flags);
                 out.assume_init()
             };
-            *trap = matches!(divided.given, DivideOutcome::Refused(_)).into();
+            *trap = matches!(divided.given, Outcome::Err(_)).into();
             0
         };
         $keys.row(tells, divides)
@@ -42,7 +42,7 @@ macro_rules! both {
 fn row(keys: &Keys) -> Row {
     let flags = Flags::from(0);
     match keys.calls[0].bits() {
-        8 => both!(keys, flags: would_trap8, div8(u16, u8)),
-        _ => both!(keys, flags: would_trap16, div16(u32, u16)),
+        8 => both!(keys, flags: byte(u8)),
+        _ => both!(keys, flags: word(u16)),
     }
 }

@@ -1,12 +1,7 @@
 -- `alu::at_once::ror` meets its contract: the number beside itself, from the rest of the count on. Assumes nothing.
-use native.Mathlib.{Omega.arith, Nat.mod-lt}
+use native.Mathlib.{Omega.arith}
 use Rattle.alu.proofs.{AtOnceLaws.ror-at_once}
 use Rattle.alu.proofs.at_once.ror.Goals as goal
-
-pub window-requires : goal.window-requires
-window-requires c =
-    let a = c.args in
-    (omega arith, omega arith, omega arith, omega (arith, mod-lt a.count {m = a.bits} (omega arith)))
 
 pub returns : goal.returns
 returns c =

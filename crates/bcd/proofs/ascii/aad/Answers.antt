@@ -1,15 +1,15 @@
 -- `bcd::ascii::aad` meets its contract, by the law of AAD. Assumes nothing.
-use Rattle.std.proofs.Common.{arith}
-use Rattle.corx.specs.Views.{halves8}
+use Rattle.std.proofs.Common.{ℕ, refl, arith}
+use Rattle.corx.specs.Views.{halves}
 use Rattle.bcd.proofs.{AdjustLaws.few_steps, AdjustLaws.aad_is}
 use Rattle.bcd.proofs.ascii.aad.Goals as goal
 
 pub overflow_add-result : goal.overflow_add-result
 overflow_add-result c =
-    let few = few_steps _ c.args.imm8 {product = halves8 c.corx8-product.result} c.corx8-product.ensures (omega arith) in
+    let few = few_steps _ c.args.imm8 {product = halves (λ (x : ℕ). x) c.corx-product.result} c.corx-product.ensures (omega arith) in
     omega arith
 
 pub returns : goal.returns
 returns c =
-    aad_is _ _ {product = halves8 c.corx8-product.result} c.corx8-product.ensures _ _ c.ah.ensures
-    c.al.ensures c.wrapping_add_u8-al.ensures.value c.set_szp_flags_from_result_u8.ensures
+    aad_is _ _ {product = halves (λ (x : ℕ). x) c.corx-product.result} c.corx-product.ensures _ _ c.ah.ensures
+    c.al.ensures refl c.set_szp_flags_from_result.ensures

@@ -4,4 +4,4 @@ use Rattle.bcd.proofs.decimal.adjusted.Goals as goal
 
 pub returns : goal.returns
 unfolding decimal
-returns c = rw c.set_szp_flags_from_result_u8.ensures
+returns c = rw (c.from_be_bytes.ensures, c.set_szp_flags_from_result.ensures)

@@ -1,13 +1,9 @@
--- `bcd::decimal::das` meets its contract, by the law of the decimal adjusts. Assumes nothing.
-use Rattle.std.proofs.Common.{ℕ, ◌+◌, ◌-◌, ◌%◌}
-use Rattle.bcd.specs.Decimal.{das_o, das_of}
-use Rattle.bcd.proofs.{AdjustLaws.decimal_moved}
+-- `bcd::decimal::das` meets its contract. Assumes nothing.
+use Rattle.bcd.specs.{Adjust.al_of, Decimal.das_of}
+use Rattle.bcd.proofs.{AdjustLaws.moved_back}
 use Rattle.bcd.proofs.decimal.das.Goals as goal
 
 pub returns : goal.returns
 unfolding das_of
 returns c =
-    let f = c.args.flags in
-    decimal_moved (λ (l : ℕ). das_o l f.aux_carry f.carry) (λ (l d : ℕ). (256 + l - d) % 256) f c.al-al.ensures
-    c.low_digit_adjusts-low.ensures c.high_digit_adjusts-high.ensures c.das_overflow.ensures c.with_coa-named.ensures
-    c.distance.ensures c.ah.ensures c.adjusted.ensures
+    rw (c.adjusted.ensures, c.tested-by.ensures, c.das_overflow-overflow.ensures, c.ah.ensures, c.al-al.ensures, moved_back (al_of c.args.ax) c.args.flags)

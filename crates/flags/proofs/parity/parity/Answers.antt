@@ -11,4 +11,4 @@ bit-not-0 true = refl
 bit-not-0 false = refl
 
 pub returns : goal.returns
-returns c = ap (λ (x : ℕ). not (eqb x 0)) (c.requires.rule c.args.byte (search rules)) ∙ bit-not-0 _
+returns c = ap (λ (x : ℕ). not (eqb x 0)) (c.parity_table.ensures.rule c.args.byte (search rules)) ∙ bit-not-0 _

@@ -1,5 +1,5 @@
 -- `readback::reader::next_at` meets its contract: the end, a line of 18 digits, or any other line. Assumes nothing.
-use mathlib.Core.{Path.◌≡◌, Path.refl, Path.sym, Path.ap, Path.◌∙◌, Bool.true}
+use mathlib.Core.{Path.◌≡◌, Path.sym, Path.ap, Path.◌∙◌, Bool.true}
 use Prim.Native.Nat.{ℕ, ◌+◌}
 use native.Mathlib.Omega.{arith}
 use Rattle.text.specs.Lines.{line_at}
@@ -17,8 +17,8 @@ returns c =
     -- the line is 18 digits
     let good : is_digits (line_at a.text.now a.at) ≡ true = sym c.is_digits.ensures ∙ c.if-not-is_digits.false in
     let end : a.at + 18 ≡ _ = ap (λ (k : ℕ). a.at + k) (sym (has_18 a.text.now a.at (omega arith) good)) in
-    (λ i. record { handed = c.hand.ensures i; place = (c.next_start.ensures ∙ next-takes a.text.now a.at (a.at + 18) true (omega arith) end) i })
-    ∙ at_line a.text.now a.at (omega arith) (at_digits a.text.now a.at (omega arith) good c.record_at.ensures c.judge.ensures) refl
+    let past = c.unwrap_or-place.ensures ∙ c.next_start.ensures.0 ∙ next-takes a.text.now a.at (a.at + 18) true (omega arith) end in
+    c.step.ensures ∙ at_line a.text.now a.at (omega arith) (at_digits a.text.now a.at (omega arith) good c.record_at.ensures c.judge-read.ensures) past
 
 pub bad_line-requires : goal.bad_line-requires
 bad_line-requires c = record { at_in_bounds = omega arith; at_value = sym c.is_digits.ensures ∙ c.if-not-is_digits.true }

@@ -5,13 +5,13 @@ use Rattle.text.proofs.lines.line_end.Goals as goal
 
 pub returns-then-text-at-eq10 : goal.returns-then-text-at-eq10
 returns-then-text-at-eq10 c =
-    let e = at_feed c.args.text.now c.loop-at.at c.loop-at-test.true c.if-text-at-eq10.true in
+    let e = at_feed c.args.text.now c.loop-at.at (omega arith) c.if-text-at-eq10.true in
     omega (arith, e)
 
 pub loop-at-preserved : goal.loop-at-preserved
 loop-at-preserved c =
-    let e = at_byte c.args.text.now c.loop-at.at c.loop-at-test.true c.if-text-at-eq10.false in
+    let e = at_byte c.args.text.now c.loop-at.at (omega arith) c.if-text-at-eq10.false in
     (omega arith, omega (arith, e))
 
 pub returns : goal.returns
-returns c = omega (arith, at_end c.args.text.now c.loop-at.at c.loop-at-test.false)
+returns c = omega (arith, at_end c.args.text.now c.loop-at.at (omega arith))

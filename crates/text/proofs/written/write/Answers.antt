@@ -19,7 +19,7 @@ stored letter status flags steps r s out h ea eb e10 e18 =
 
 pub returns : goal.returns
 returns c =
-    stored capital_of c.args.status c.args.flags c.args.steps c.args.r c.args.s c.args.out.now c.requires.in_bounds
+    stored capital_of c.args.status c.args.flags c.args.steps c.args.r c.args.s c.args.out.now c.requires
     c.capital.ensures
     c.capital-2.ensures
     c.put_eight.ensures

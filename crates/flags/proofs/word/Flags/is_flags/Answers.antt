@@ -7,4 +7,4 @@ use Rattle.flags.proofs.word.Flags.is_flags.Goals as goal
 
 pub returns : goal.returns
 unfolding is_flags
-returns c = ap (λ (w : ℕ). eqb w c.args.word) (c.to_word.ensures ∙ ap word_of c.from_word.ensures)
+returns c = ap (λ (w : ℕ). eqb w c.args.word) (c.from.ensures ∙ ap word_of c.from_word.ensures)

@@ -1,9 +1,0 @@
--- `alu::last::left_o16` meets its contract, by the law of O leftward at the width 16. Assumes nothing.
-use native.Mathlib.Omega.{arith}
-use Rattle.alu.proofs.{StepLaws.left_o_lem}
-use Rattle.alu.proofs.last.left_o16.Goals as goal
-
-pub returns : goal.returns
-returns c =
-    let a = c.args in
-    left_o_lem 16 a.res a.count a.carry (omega arith) (omega arith) c.of_last.ensures
