@@ -404,6 +404,34 @@ static void registers(void)
     }
 }
 
+/* What an operation does not change it does not write: these numbers stand in memory that cannot be written, so that a
+   write ends this program by a signal. After a refused divide AX and DX are among them, and else all four. */
+static const struct hatchyarn_register_record sealed = {0x0007, 0xBEEF, HATCHYARN_FLAG_C, UINT32_MAX};
+
+static uint8_t over_sealed(uint8_t op, uint8_t mode, uint16_t y)
+{
+    uint16_t steps;
+
+    return hatchyarn_operate((struct hatchyarn_register_record *)&sealed, op, mode, y, &steps);
+}
+
+static void not_written(void)
+{
+    uint16_t flags = 0, steps;
+    uint32_t total = 0;
+
+    expect(over_sealed(0x00, HATCHYARN_MODE_BYTE, 0) == HATCHYARN_BAD_OP, "a sealed record under a wrong op");
+    expect(over_sealed(HATCHYARN_OP_DIVIDE, 8, 2) == HATCHYARN_BAD_MODE, "a sealed record under a wrong mode");
+    expect(over_sealed(HATCHYARN_OP_DIVIDE, HATCHYARN_MODE_BYTE, 0x100) == HATCHYARN_TOO_LARGE,
+           "a sealed record under a divisor too large");
+    expect(over_sealed(HATCHYARN_OP_DIVIDE, HATCHYARN_MODE_BYTE, 2) == HATCHYARN_TOTAL_FULL,
+           "a sealed record with a full total");
+    expect(hatchyarn_registers(HATCHYARN_OP_DIVIDE, HATCHYARN_MODE_BYTE, 0, (uint16_t *)&sealed.ax,
+                               (uint16_t *)&sealed.dx, &flags, &total, &steps) == HATCHYARN_ZERO_DIVISOR
+               && flags == (HATCHYARN_FLAG_P | HATCHYARN_FLAG_Z) && total == 9,
+           "sealed AX and DX under a refused divide");
+}
+
 /* A session from a fresh record: AX is stored anew between two operations, one divide is refused, and the total is the
    sum of the steps. When it is full it is noted and begun again. */
 static void a_session(void)
@@ -713,6 +741,7 @@ int main(void)
     roads();
     explained();
     registers();
+    not_written();
     a_session();
     packed_sums();
     packed_pieces();

@@ -89,6 +89,8 @@ pub fn answer_input<R: Read>(
         requires { 19 ≤ length room.now }
         ensures room_stays { length room.exit.now ≡ length room.entry.now }
         ensures within { IfOk result (λ kept. (kept.start ≤ kept.end) × (kept.end ≤ length text.now)) }
+        ensures few { IfOk result (λ kept. kept.end - kept.start ≤ LONG) }
+        ensures keeps { IfOk result (λ kept. Keeps at_end text.now (take (kept.end - kept.start) (drop kept.start text.now))) }
     { Ok(answer_block(program, text, room, at_end)?) };
     let answered = input::each_block(input, buffer, answer);
     match answered {

@@ -1,6 +1,6 @@
 // An input: a file, or standard input. It is read block by block into a buffer, where what one block leaves over stands
 // before the next.
-ghost use Rattle.std.specs.Prelude.{◌≡◌, ◌-◌, ◌≤◌, length, take, drop, IfOk};
+ghost use Rattle.std.specs.Prelude.{◌≡◌, ◌-◌, ◌≤◌, length, take, drop, IfOk, IfSome, is_none, Ok};
 
 use crate::{Failed, Program};
 use std::fs::File;
@@ -44,6 +44,29 @@ fn keep_front(buffer: &mut [u8], kept: Range<usize>) -> usize
     kept.len()
 }
 
+// Gives the step a block, and moves the bytes that it keeps to the front of the buffer. Says how many they are; none at
+// the input's end, since nothing is read behind them.
+fn turn<E, F: FnMut(&[u8], bool) -> Result<Range<usize>, E>>(
+    step: &mut F,
+    buffer: &mut [u8],
+    have: usize,
+    at_end: bool,
+) -> Result<Option<usize>, E>
+    requires have { have ≤ length buffer.old }
+    requires callable { F.IsAlwaysCallable step.old }
+    requires within { (f : F) (block : _) (at_end : _) (r : _) → F.post f block at_end r → IfOk r (λ kept. (kept.start ≤ kept.end) × (kept.end ≤ length block.now)) }
+    ensures callable_again { F.IsAlwaysCallable step.new }
+    ensures inside { IfOk result (λ next. IfSome next (λ n. n ≤ length buffer.old)) }
+    ensures more { IfOk result (λ next. is_none next ≡ at_end) }
+    ensures kept { IfOk result (λ next. (block : _) × (kept : _) × (block.now ≡ take have buffer.old) × F.step step.old block at_end (Ok kept) step.new × IfSome next (λ n. take n buffer.new ≡ drop kept.start (take kept.end buffer.old))) }
+{
+    let left = step(&buffer[..have], at_end)?;
+    if at_end {
+        return Ok(None);
+    }
+    Ok(Some(keep_front(buffer, left)))
+}
+
 // Gives the step each block, which begins with what is kept of the one before, and whether the input is at its end. The
 // step says which bytes of the block to keep. A proved loop has to end, and nothing says that an input does; so the
 // turns are counted up to a number that no run reaches.
@@ -59,11 +82,10 @@ pub fn each_block<R: Read, E: From<io::Error>, F: FnMut(&[u8], bool) -> Result<R
     for _ in 0..u64::MAX {
         let have = fill(input, buffer, kept)?;
         let at_end = have == kept;
-        let left = step(&buffer[..have], at_end)?;
-        if at_end {
+        let Some(next) = turn(&mut step, buffer, have, at_end)? else {
             break;
-        }
-        kept = keep_front(buffer, left);
+        };
+        kept = next;
     }
     Ok(())
 }

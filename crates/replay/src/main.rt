@@ -98,7 +98,8 @@ fn replay_block(output: Stdout, block: &[u8], replayed: &mut Replayed) -> Range<
 fn replay_all(mut input: Stdin, output: Stdout, buffer: &mut [u8]) -> Replayed {
     let mut replayed = Replayed::default();
     let step = |block: &[u8], _at_end: bool| -> io::Result<Range<usize>>
-        ensures { IfOk result (λ left. (left.start ≤ left.end) × (left.end ≤ length block.now)) }
+        ensures counted { replayed.exit ≡ count_on replayed.entry block.now }
+        ensures left { IfOk result (λ left. (left.start ≡ replayed.exit.used) × (left.start ≤ left.end) × (left.end ≡ length block.now)) }
     { Ok(replay_block(output, block, &mut replayed)) };
     let _ = input::each_block(&mut input, buffer, step);
     replayed

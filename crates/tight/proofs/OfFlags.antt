@@ -1,12 +1,17 @@
 -- Each public function of `flags` has a tight contract. Assumes nothing.
-use mathlib.Core.Path.{◌≡◌, refl}
-use Prim.Native.Nat.{◌<◌}
+use mathlib.Core.{Path.◌≡◌, Path.refl, List.List}
+use Prim.Native.Nat.{ℕ, ◌<◌}
+use Rattle.flags.specs.Parity.{ParityTable}
 use Rattle.flags.specs.contracts.parity
 use Rattle.flags.specs.contracts.number
 use Rattle.flags.specs.contracts.word
 use Rattle.tight.specs.Numbers.{Numbers}
 use Rattle.tight.specs.Tight.{Tight, TightAt}
-use Rattle.tight.proofs.Law.{plainly, by_both, same}
+use Rattle.tight.proofs.Law.{plainly, by_both, same, one_table}
+
+-- the table, which `parity` alone reads, is one
+pub one_parity_table : {r s : List ℕ} → ParityTable r → ParityTable s → r ≡ s
+one_parity_table h k = one_table h k
 
 module _ {M : Type 1} where
   pub number-U8Number-wide : Tight M number.U8Number.wide.signature (λ 𝓤. number.U8Number.wide.clauses)

@@ -7,7 +7,7 @@ use Rattle.readback.specs.contracts.told
 use Rattle.readback.specs.declared.reader.Reader.{Reader}
 use Rattle.readback.specs.Reader.{Handed}
 use Rattle.tight.specs.Tight.{Tight}
-use Rattle.tight.proofs.Law.{plainly, same}
+use Rattle.tight.proofs.Law.{plainly, by_both, same}
 
 -- what the iterator may hand out and leave is one
 pub reader_gives_one : (r s t : Reader) (a b : Handed) → reader.ReaderIterator.TheImpl.next_gives-value.it r a s → reader.ReaderIterator.TheImpl.next_gives-value.it r b t → (a ≡ b) × (s ≡ t)
@@ -28,6 +28,9 @@ module _ {M : Type 1} where
 
   pub reader-next_at : Tight M reader.next_at.signature (λ 𝓤. reader.next_at.clauses)
   reader-next_at c g r s = plainly c.𝓤 (λ e d. (same e d, refl))
+
+  pub reader-ReaderIterator-next : Tight M reader.ReaderIterator.next.signature (λ 𝓤. reader.ReaderIterator.next.clauses)
+  reader-ReaderIterator-next c g r s = by_both c.𝓤 _ _ _ _ (λ e d. let both = reader_gives_one _ _ _ _ _ e.0 d.0 in (both.0, λ i. (both.1 i, tt)))
 
   pub told-tell : Tight M told.tell.signature (λ 𝓤. told.tell.clauses)
   told-tell c g r s = plainly c.𝓤 (λ e d. (same e.0 d.0, λ i. (tt, (same e.1 d.1 i, tt))))

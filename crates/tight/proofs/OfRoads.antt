@@ -42,9 +42,6 @@ module _ {M : Type 1} where
   pub lib-RefusalFromDivRefusal-from : Tight M lib.RefusalFromDivRefusal.from.signature (λ 𝓤. lib.RefusalFromDivRefusal.from.clauses)
   lib-RefusalFromDivRefusal-from c g r s = plainly c.𝓤 (λ e d. (same e d, refl))
 
-  pub lib-RefusalFromTryFromIntError-from : Tight M lib.RefusalFromTryFromIntError.from.signature (λ 𝓤. lib.RefusalFromTryFromIntError.from.clauses)
-  lib-RefusalFromTryFromIntError-from c g r s = plainly c.𝓤 (λ e d. (same e d, refl))
-
   pub told-U8FromRefusal-from : Tight M told.U8FromRefusal.from.signature (λ 𝓤. told.U8FromRefusal.from.clauses)
   told-U8FromRefusal-from c g r s = plainly c.𝓤 (λ e d. (same e d, refl))
 

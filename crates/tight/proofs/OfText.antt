@@ -1,5 +1,7 @@
 -- Each public function of `text` has a tight contract. Assumes nothing.
-use mathlib.Core.Path.{refl}
+use mathlib.Core.{Path.◌≡◌, Path.refl, List.List}
+use Prim.Native.Nat.{ℕ}
+use Rattle.text.specs.Digits.{DigitTable, CapitalTable}
 use Rattle.text.specs.contracts.digits
 use Rattle.text.specs.contracts.fields
 use Rattle.text.specs.contracts.found
@@ -7,7 +9,14 @@ use Rattle.text.specs.contracts.lines
 use Rattle.text.specs.contracts.hex
 use Rattle.text.specs.contracts.written
 use Rattle.tight.specs.Tight.{Tight}
-use Rattle.tight.proofs.Law.{plainly, same}
+use Rattle.tight.proofs.Law.{plainly, same, one_table}
+
+-- the tables, which `digit` and `capital` alone read, are one each
+pub one_digit_table : {r s : List ℕ} → DigitTable r → DigitTable s → r ≡ s
+one_digit_table h k = one_table h k
+
+pub one_capital_table : {r s : List ℕ} → CapitalTable r → CapitalTable s → r ≡ s
+one_capital_table h k = one_table h k
 
 module _ {M : Type 1} where
   pub digits-digit : Tight M digits.digit.signature (λ 𝓤. digits.digit.clauses)
