@@ -48,8 +48,8 @@ pub fn hatchyarn_roads(mode: u8, dividend: u32, divisor: u16, roads: &mut [u16; 
 
 // An operation over AX, DX, the flags and the total of steps, which it changes in place; its steps go into
 // `steps`, and the status is returned. A divide that the chip refuses leaves AX and DX; its flags are stored,
-// and its steps go into the total. After 3, 4, 5 and 10 the four are as they were, and the steps are 0. What is not
-// changed is not written.
+// and its steps go into the total. After 3, 4, 5 and 10 the four are as they were, and the steps are 0. What of
+// the four is not changed is not written.
 pub fn hatchyarn_registers(
     op: u8,
     mode: u8,

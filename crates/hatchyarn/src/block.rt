@@ -1,6 +1,6 @@
 // One input, block by block: what is read is answered line by line, and a line that a block cuts is
 // kept for the next.
-ghost use Rattle.std.specs.Prelude.{◌≡◌, ◌-◌, ◌≤◌, length, take, drop, IfOk};
+ghost use Rattle.std.specs.Prelude.{◌≡◌, ◌-◌, ◌≤◌, ◌<◌, length, take, drop, IfOk};
 ghost use Rattle.line.specs.Whole.{whole};
 ghost use Rattle.hatchyarn.specs.Kept.{Keeps};
 
@@ -65,7 +65,7 @@ fn answer_block(
 ) -> Result<Range<usize>, Failed>
     requires { 19 ≤ length room.old }
     ensures within { IfOk result (λ kept. (kept.start ≤ kept.end) × (kept.end ≤ length text.now)) }
-    ensures few { IfOk result (λ kept. kept.end - kept.start ≤ LONG) }
+    ensures few { IfOk result (λ kept. (kept.end - kept.start ≤ LONG) × (kept.end - kept.start < 32)) }
     ensures keeps { IfOk result (λ kept. Keeps at_end text.now (take (kept.end - kept.start) (drop kept.start text.now))) }
 {
     let used = answer_lines(program, text, room, at_end)?;
@@ -89,7 +89,7 @@ pub fn answer_input<R: Read>(
         requires { 19 ≤ length room.now }
         ensures room_stays { length room.exit.now ≡ length room.entry.now }
         ensures within { IfOk result (λ kept. (kept.start ≤ kept.end) × (kept.end ≤ length text.now)) }
-        ensures few { IfOk result (λ kept. kept.end - kept.start ≤ LONG) }
+        ensures few { IfOk result (λ kept. (kept.end - kept.start ≤ LONG) × (kept.end - kept.start < 32)) }
         ensures keeps { IfOk result (λ kept. Keeps at_end text.now (take (kept.end - kept.start) (drop kept.start text.now))) }
     { Ok(answer_block(program, text, room, at_end)?) };
     let answered = input::each_block(input, buffer, answer);

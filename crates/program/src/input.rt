@@ -1,6 +1,6 @@
 // An input: a file, or standard input. It is read block by block into a buffer, where what one block leaves over stands
 // before the next.
-ghost use Rattle.std.specs.Prelude.{◌≡◌, ◌-◌, ◌≤◌, length, take, drop, IfOk, IfSome, is_none, Ok};
+ghost use Rattle.std.specs.Prelude.{◌≡◌, ◌⊎◌, ◌==◌, ◌-◌, ◌≤◌, length, take, drop, IfOk, IfSome, is_none, Ok};
 
 use crate::{Failed, Program};
 use std::fs::File;
@@ -44,22 +44,24 @@ fn keep_front(buffer: &mut [u8], kept: Range<usize>) -> usize
     kept.len()
 }
 
-// Gives the step a block, and moves the bytes that it keeps to the front of the buffer. Says how many they are; none at
-// the input's end, since nothing is read behind them.
+// Gives the step the filled block, and moves the bytes that it keeps to the front of the buffer. Says how many they are;
+// none at the input's end, where nothing was read behind what was kept. What is kept is what some step kept, or nothing.
 fn turn<E, F: FnMut(&[u8], bool) -> Result<Range<usize>, E>>(
     step: &mut F,
     buffer: &mut [u8],
+    kept: usize,
     have: usize,
-    at_end: bool,
 ) -> Result<Option<usize>, E>
-    requires have { have ≤ length buffer.old }
+    requires have { (kept ≤ have) × (have ≤ length buffer.old) }
+    requires before { (kept ≡ 0) ⊎ ((f : F) × (block : _) × (at_end : _) × (left : _) × (f' : F) × F.step f block at_end (Ok left) f' × (kept ≡ left.end - left.start)) }
     requires callable { F.IsAlwaysCallable step.old }
     requires within { (f : F) (block : _) (at_end : _) (r : _) → F.post f block at_end r → IfOk r (λ kept. (kept.start ≤ kept.end) × (kept.end ≤ length block.now)) }
     ensures callable_again { F.IsAlwaysCallable step.new }
     ensures inside { IfOk result (λ next. IfSome next (λ n. n ≤ length buffer.old)) }
-    ensures more { IfOk result (λ next. is_none next ≡ at_end) }
-    ensures kept { IfOk result (λ next. (block : _) × (kept : _) × (block.now ≡ take have buffer.old) × F.step step.old block at_end (Ok kept) step.new × IfSome next (λ n. take n buffer.new ≡ drop kept.start (take kept.end buffer.old))) }
+    ensures more { IfOk result (λ next. is_none next ≡ (have == kept)) }
+    ensures kept { IfOk result (λ next. (block : _) × (left : _) × (block.now ≡ take have buffer.old) × F.step step.old block (have == kept) (Ok left) step.new × IfSome next (λ n. (n ≡ left.end - left.start) × (take n buffer.new ≡ drop left.start (take left.end buffer.old)))) }
 {
+    let at_end = have == kept;
     let left = step(&buffer[..have], at_end)?;
     if at_end {
         return Ok(None);
@@ -81,8 +83,7 @@ pub fn each_block<R: Read, E: From<io::Error>, F: FnMut(&[u8], bool) -> Result<R
     let mut kept = 0;
     for _ in 0..u64::MAX {
         let have = fill(input, buffer, kept)?;
-        let at_end = have == kept;
-        let Some(next) = turn(&mut step, buffer, have, at_end)? else {
+        let Some(next) = turn(&mut step, buffer, kept, have)? else {
             break;
         };
         kept = next;
