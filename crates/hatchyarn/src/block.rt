@@ -56,7 +56,8 @@ fn answer_lines(
 }
 
 // Answers the text's lines, and says which of its bytes to keep: what is left, or of a line that is too long as much as
-// keeps it too long. The kept bytes stand for what is left.
+// keeps it too long. The kept bytes stand for what is left. They are fewer than the smallest block's 32, so that there is
+// always room to read behind them.
 fn answer_block(
     program: &Program,
     text: &[u8],
